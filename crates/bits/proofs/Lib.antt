@@ -1,0 +1,4 @@
+pub mod Word
+pub mod Rank
+pub mod Places
+pub mod Refusals

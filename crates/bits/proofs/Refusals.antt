@@ -1,0 +1,94 @@
+-- Laws of widths and refusals. Assumes nothing.
+use mathlib.Core.Path.{_≡_, refl, sym, _∙_, ap}
+use mathlib.Core.Logic.{_⊎_, inl, inr}
+use mathlib.Core.Bool.{Bool, true, false, cond, not, true≢false}
+use mathlib.Core.List.{List, [], _∷_}
+use Prim.Native.Nat.{ℕ, zero, suc, _+_, _*_, _/_, _^_, _<_, _≤_}
+use native.Mathlib.Omega.{arith}
+use native.Mathlib.Decide.{decLt}
+use native.Mathlib.Nat.{div-eq-of-lt, div-lt-iff-lt-mul}
+use lib.Dec.{T, eqb, ltb}
+use lib.Pow.{pow-pos, pow-mono}
+use borrow.Author.Tests.{lt-ltb, le-ltb, eq-eqb, ne-eqb, eqb-true}
+use Rattle.bits.specs.Refusal.{logs, logIn, logOf, accepted, fits, lowest, Applies, Rising, IsLowest}
+
+-- `lowest` is what demand 1 asks: the lowest number that applies
+
+above : (b : ℕ) (cs : List (ℕ × Bool)) (n : ℕ) → Rising b cs → Applies n cs → b < n
+above b [] n r a = absurd a
+above b (c ∷ cs) n r (inl a) = omega (arith, r .0, a .0)
+above b (c ∷ cs) n r (inr a) = omega (arith, r .0, above (c .0) cs n (r .1) a)
+
+lowest-of : (n : ℕ) (b : Bool) (cs : List (ℕ × Bool)) → Rising n cs → IsLowest cs (lowest cs) → IsLowest ((n, b) ∷ cs) (lowest ((n, b) ∷ cs))
+lowest-of n true cs r h = inr (inl (refl, tt), least)
+  where
+    least : (k : ℕ) → Applies k ((n, true) ∷ cs) → n ≤ k
+    least k (inl a) = omega (arith, a .0)
+    least k (inr a) = omega (arith, above n cs k r a)
+lowest-of n false cs r (inl h) = inl (h .0, none)
+  where
+    none : (k : ℕ) → Applies k ((n, false) ∷ cs) → ⊥
+    none k (inl a) = a .1
+    none k (inr a) = h .1 k a
+lowest-of n false cs r (inr h) = inr (inr (h .0), least)
+  where
+    least : (k : ℕ) → Applies k ((n, false) ∷ cs) → lowest cs ≤ k
+    least k (inl a) = absurd (a .1)
+    least k (inr a) = h .1 k a
+
+lowest-from : (b : ℕ) (cs : List (ℕ × Bool)) → Rising b cs → IsLowest cs (lowest cs)
+lowest-from b [] r = inl (refl, λ n a. a)
+lowest-from b (c ∷ cs) r = lowest-of (c .0) (c .1) cs (r .1) (lowest-from (c .0) cs (r .1))
+
+pub lowest-law : (cs : List (ℕ × Bool)) → Rising 0 cs → IsLowest cs (lowest cs)
+lowest-law cs r = lowest-from 0 cs r
+
+-- an accepted width is two to the power of its logarithm, 3 to 6
+
+Between : ℕ → ℕ → List ℕ → Type 0
+Between lo hi [] = Unit
+Between lo hi (l ∷ ls) = (lo ≤ l) × (l ≤ hi) × Between lo hi ls
+
+Logged : ℕ → ℕ → ℕ → ℕ → Type 0
+Logged lo hi w l = (w ≡ 2 ^ l) × (lo ≤ l) × (l ≤ hi)
+
+log-in : (lo hi : ℕ) (ls : List ℕ) → Between lo hi ls → (w : ℕ) → (logIn ls w ≡ 0) ⊎ Logged lo hi w (logIn ls w)
+unfolding Between Logged
+log-in lo hi [] b w = inl refl
+log-in lo hi (l ∷ ls) b w = by-test (eqb w (2 ^ l)) (eqb-true w (2 ^ l)) (log-in lo hi ls (b .2) w)
+  where
+    by-test : (t : Bool) → (t ≡ true → w ≡ 2 ^ l) → (logIn ls w ≡ 0) ⊎ Logged lo hi w (logIn ls w)
+        → (cond t l (logIn ls w) ≡ 0) ⊎ Logged lo hi w (cond t l (logIn ls w))
+    by-test true e r = inr (e refl, b .0, b .1)
+    by-test false e r = r
+
+pub log-width : (w : ℕ) → accepted w ≡ true → (w ≡ 2 ^ logOf w) × (3 ≤ logOf w) × (logOf w ≤ 6)
+unfolding Between Logged
+log-width w h = by-cases (log-in 3 6 logs (omega arith) w)
+  where
+    by-cases : (logOf w ≡ 0) ⊎ Logged 3 6 w (logOf w) → Logged 3 6 w (logOf w)
+    by-cases (inl e) = absurd (true≢false (sym h ∙ ap not (eq-eqb (logOf w) 0 e)))
+    by-cases (inr r) = r
+
+pub not-width : (w : ℕ) → logOf w ≡ 0 → accepted w ≡ false
+not-width w e = ap not (eq-eqb (logOf w) 0 e)
+
+pub is-width : (w : ℕ) → (logOf w ≡ 0 → ⊥) → accepted w ≡ true
+is-width w n = ap not (ne-eqb (logOf w) 0 n)
+
+pub width-le : (w : ℕ) → accepted w ≡ true → w ≤ 64
+width-le w h = let z = log-width w h in omega (arith, z .0, pow-mono (z .2))
+
+-- the code's test of a word against a width
+
+pub shr-fits : (x w : ℕ) → eqb (x / 2 ^ w) 0 ≡ fits w x
+shr-fits x w = by-cases (decLt x (2 ^ w))
+  where
+    by-cases : Dec (x < 2 ^ w) → eqb (x / 2 ^ w) 0 ≡ ltb x (2 ^ w)
+    by-cases (yes l) = eq-eqb _ _ (div-eq-of-lt l) ∙ sym (lt-ltb _ _ l)
+    by-cases (no n) =
+        let le : 2 ^ w ≤ x = omega arith in
+        ne-eqb (x / 2 ^ w) 0 (λ e. n (omega (arith, div-lt-iff-lt-mul {x = x} {y = 1} (pow-pos w) .0 (omega arith)))) ∙ sym (le-ltb _ _ le)
+
+pub wide-fits : (x w : ℕ) → x < 2 ^ 64 → 64 ≤ w → fits w x ≡ true
+wide-fits x w h l = lt-ltb x (2 ^ w) (omega (arith, pow-mono l))

@@ -1,0 +1,42 @@
+-- Words as their bits. A word is a natural number; a bit (paper 01: line) is a digit, 0 or 1, counted from 0 at the right.
+-- Assumes nothing.
+use Prim.Native.Nat.{ℕ, zero, suc, _+_, _*_, _/_, _%_, _^_}
+use mathlib.Core.List.{List, [], _∷_, _++_}
+use mathlib.Core.Bool.{cond}
+use lib.Dec.{eqb}
+use lib.ListN.{length, getD}
+
+-- bit i of the word x
+unfoldable pub bit : ℕ → ℕ → ℕ
+bit x i = x / 2 ^ i % 2
+
+-- the word of w bits whose bit i is f i
+unfoldable pub ofBits : ℕ → (ℕ → ℕ) → ℕ
+ofBits zero f = zero
+ofBits (suc w) f = ofBits w (λ i. f (suc i)) * 2 + f zero % 2
+
+-- the number of ones of m in the places below p; rank m w is the count of a mask of width w
+unfoldable pub rank : ℕ → ℕ → ℕ
+rank m zero = zero
+rank m (suc p) = rank m p + bit m p
+
+-- the places below w, from the right, where the bit of m is v
+unfoldable pub places : ℕ → ℕ → ℕ → List ℕ
+places v m zero = []
+places v m (suc w) = places v m w ++ cond (eqb (bit m w) v) (w ∷ []) []
+
+-- paper 01: the marked lines, from the right, are m0, m1, ..
+abbrev pub marked : ℕ → ℕ → List ℕ
+marked m w = places 1 m w
+
+abbrev pub unmarked : ℕ → ℕ → List ℕ
+unmarked m w = places 0 m w
+
+-- the word whose bit i is the bit of x at place number i of the list; zeros from the list's length up
+unfoldable pub pick : List ℕ → ℕ → ℕ
+pick ps x = ofBits (length ps) (λ i. bit x (getD ps i 0))
+
+-- the word whose bit at place number i of the list is bit i of x; zeros at the places not listed
+unfoldable pub put : List ℕ → ℕ → ℕ
+put [] x = zero
+put (p ∷ ps) x = bit x 0 * 2 ^ p + put ps (x / 2)

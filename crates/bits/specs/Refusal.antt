@@ -1,0 +1,47 @@
+-- Accepted widths, and the refusal numbers of paper 01, 'Calls turned back'. Assumes nothing.
+use mathlib.Core.Path.{_≡_}
+use mathlib.Core.Logic.{_⊎_}
+use Prim.Native.Nat.{ℕ, zero, _^_, _<_, _≤_}
+use mathlib.Core.Bool.{Bool, not, cond}
+use mathlib.Core.List.{List, [], _∷_}
+use lib.Dec.{T, eqb, ltb}
+
+-- The base-two logarithms of the accepted widths ("A width w is 8, 16, 32 or 64, and L is its base-two logarithm, 3 to 6")
+abbrev pub logs : List ℕ
+logs = 3 ∷ 4 ∷ 5 ∷ 6 ∷ []
+
+-- the logarithm of the width w among those listed, 0 if there is none
+abbrev pub logIn : List ℕ → ℕ → ℕ
+logIn [] w = 0
+logIn (l ∷ ls) w = cond (eqb w (2 ^ l)) l (logIn ls w)
+
+abbrev pub logOf : ℕ → ℕ
+logOf w = logIn logs w
+
+-- is w one of the accepted widths?
+abbrev pub accepted : ℕ → Bool
+accepted w = not (eqb (logOf w) 0)
+
+-- no one at bit w or above
+abbrev pub fits : ℕ → ℕ → Bool
+fits w x = ltb x (2 ^ w)
+
+-- The lowest number of a rising list of conditions that applies, 0 if none does: demand 1, for every call of the unit.
+-- An entry is a refusal number and whether its condition holds of the call.
+abbrev pub lowest : List (ℕ × Bool) → ℕ
+lowest [] = 0
+lowest (c ∷ cs) = cond (c .1) (c .0) (lowest cs)
+
+-- What demand 1 says of `lowest`: number n is in the list and its condition holds
+abbrev pub Applies : ℕ → List (ℕ × Bool) → Type 0
+Applies n [] = ⊥
+Applies n (c ∷ cs) = ((c .0 ≡ n) × T (c .1)) ⊎ Applies n cs
+
+-- the numbers of the list rise from above b
+abbrev pub Rising : ℕ → List (ℕ × Bool) → Type 0
+Rising b [] = Unit
+Rising b (c ∷ cs) = (b < c .0) × Rising (c .0) cs
+
+-- r is 0 and nothing applies, or r applies and nothing lower does
+abbrev pub IsLowest : List (ℕ × Bool) → ℕ → Type 0
+IsLowest cs r = ((r ≡ 0) × ((n : ℕ) → Applies n cs → ⊥)) ⊎ (Applies r cs × ((n : ℕ) → Applies n cs → r ≤ n))

@@ -1,0 +1,72 @@
+// What every call of the unit shares: accepted widths, the refusal numbers, single bits of a word.
+ghost use mathlib.Core.Path.{_≡_};
+ghost use Prim.Native.Nat.{_<_};
+ghost use Rattle.bits.specs.Bit.{bit, rank};
+ghost use Rattle.bits.specs.Refusal.{logOf, fits};
+
+// The refusal numbers, paper 01, 'Calls turned back'. They are part of the interface; more may follow, none changes.
+pub const CARRIED_OUT: u8 = 0; // no refusal
+
+pub const WIDTH: u8 = 1; // width not 8, 16, 32, 64
+
+pub const ABOVE: u8 = 2; // word or mask has a one at line w or above
+
+pub const UNUSED: u8 = 3; // a one in an unused setting bit or column
+
+pub const LENGTH: u8 = 4; // order not w long; run list not a multiple of 4 bytes, or above 4,096 bytes
+
+pub const ENTRY: u8 = 5; // order entry w or above, or repeated
+
+pub const NOT_REALISED: u8 = 6; // order not realised by the one network named
+
+pub const KIND: u8 = 7; // kind not 1 to 10, or in kind 5 r1 not 1 to 4
+
+pub const REGISTER: u8 = 8; // a register number in use above 15
+
+pub const RANGE: u8 = 9; // a above b, b above the length of the strip that a and b cut, or either strip above 2,048 words
+
+pub const SHORT: u8 = 10; // the other strip shorter than its bits need
+
+// The base-two logarithm of an accepted width, 0 for any other number.
+pub fn log_of(width: u32) -> u32
+    ensures { λ r. ⌜ r ≡ logOf width ⌝ }
+{
+    if width == 8 {
+        return 3;
+    }
+    if width == 16 {
+        return 4;
+    }
+    if width == 32 {
+        return 5;
+    }
+    if width == 64 {
+        return 6;
+    }
+    0
+}
+
+// Whether x has no one at bit `width` or above.
+pub fn is_within(width: u32, x: u64) -> bool
+    ensures { λ r. ⌜ r ≡ fits width x ⌝ }
+{
+    if 64 <= width {
+        return true;
+    }
+    x >> width == 0
+}
+
+// The number of ones of x.
+pub fn count(x: u64) -> u64
+    ensures { λ r. ⌜ r ≡ rank x 64 ⌝ }
+{
+    u64::count_ones(x) as u64
+}
+
+// internal: a place below 64
+pub fn bit_at(x: u64, place: u64) -> u64
+    requires { ⌜ place < 64 ⌝ }
+    ensures { λ r. ⌜ r ≡ bit x place ⌝ }
+{
+    (x >> place) % 2
+}

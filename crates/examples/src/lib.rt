@@ -1,0 +1,11 @@
+// The marked rows of paper 01, proved from the definitions together: specs/Rows.antt is the list, proofs/Check.antt the check.
+ghost use mathlib.Core.Path.{_≡_};
+ghost use lib.ListN.{length};
+ghost use Rattle.examples.specs.Rows.{rows};
+
+// How many rows the list has. (A crate has at least one function.)
+pub fn row_count() -> u32
+    ensures { λ r. ⌜ r ≡ length rows ⌝ }
+{
+    3
+}

@@ -1,0 +1,52 @@
+-- What the calls' answers come to, by the tests that the code makes. Assumes nothing.
+use mathlib.Core.Path.{_≡_, refl, sym, _∙_, ap}
+use mathlib.Core.Bool.{Bool, true, false, not, cond, _||_}
+use mathlib.Core.List.{List, [], _∷_}
+use Prim.Native.Nat.{ℕ, _^_, _<_, _≤_}
+use native.Mathlib.Omega.{arith}
+use lib.Dec.{eqb}
+use borrow.Author.Tests.{eq-eqb, ne-eqb, ltb-true}
+use Rattle.bits.specs.Refusal.{accepted, fits, lowest, IsLowest}
+use Rattle.bits.proofs.Refusals.{width-le, lowest-law}
+use Rattle.gather.specs.declared.Gathered.{Gathered}
+use Rattle.gather.specs.Gather.{conditionsOf, refusalOf, answerOf}
+
+-- the refusal, from the outcomes of the three tests: an accepted width, a word and a mask within it
+abbrev byTests : Bool → Bool → Bool → ℕ
+byTests a f g = lowest ((1, not a) ∷ (2, not f || not g) ∷ [])
+
+module _ (w m x : ℕ) where
+  pub refusal-by : {a f g : Bool} → accepted w ≡ a → fits w x ≡ f → fits w m ≡ g → refusalOf w m x ≡ byTests a f g
+  unfolding refusalOf
+  refusal-by {a} {f} {g} p q r =
+      ap (λ (b : Bool). byTests b (fits w x) (fits w m)) p
+      ∙ ap (λ (b : Bool). byTests a b (fits w m)) q
+      ∙ ap (λ (b : Bool). byTests a f b) r
+
+  -- demand 1, of gather, scatter and group
+  pub refusal-lowest : IsLowest (conditionsOf w m x) (refusalOf w m x)
+  unfolding refusalOf
+  refusal-lowest = lowest-law (conditionsOf w m x) (omega arith)
+
+  -- a call that is carried out is within the limits
+  pub within : refusalOf w m x ≡ 0 → (accepted w ≡ true) × (x < 2 ^ w) × (m < 2 ^ w)
+  within e = by-tests (accepted w) (fits w x) (fits w m) refl refl refl (sym (refusal-by refl refl refl) ∙ e)
+    where
+      by-tests : (a f g : Bool) → accepted w ≡ a → fits w x ≡ f → fits w m ≡ g → byTests a f g ≡ 0
+          → (accepted w ≡ true) × (x < 2 ^ w) × (m < 2 ^ w)
+      by-tests true true true p q r z = (p, ltb-true x (2 ^ w) q, ltb-true m (2 ^ w) r)
+      by-tests true true false p q r z = absurd (omega arith)
+      by-tests true false g p q r z = absurd (omega arith)
+      by-tests false f g p q r z = absurd (omega arith)
+
+  pub within-limits : {n : ℕ} → n ≡ refusalOf w m x → n ≡ 0 → (w ≤ 64) × (m < 2 ^ w)
+  within-limits e z = let l = within (sym e ∙ z) in (width-le w (l .0), l .2)
+
+  module _ (f : ℕ → ℕ → ℕ → ℕ) {n : ℕ} (e : n ≡ refusalOf w m x) where
+    pub refused : (n ≡ 0 → ⊥) → _≡_ {A = Gathered} (record { refusal = n; word = 0 }) (answerOf f w m x)
+    unfolding answerOf
+    refused z = rw (← e, ne-eqb n 0 z)
+
+    pub carried-out : n ≡ 0 → {y : ℕ} → y ≡ f w m x → _≡_ {A = Gathered} (record { refusal = 0; word = y }) (answerOf f w m x)
+    unfolding answerOf
+    carried-out z y = rw (← e, eq-eqb n 0 z, y)

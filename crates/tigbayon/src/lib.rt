@@ -1,0 +1,25 @@
+// The exported C functions, declared in include/tigbayon.h: each hands its arguments to the call it is named for.
+// No logic is here, and each promise is that call's.
+ghost use mathlib.Core.Path.{_≡_};
+ghost use Rattle.gather.specs.Gather.{gatherOf, scatterOf, groupOf, answerOf};
+
+#[no_mangle]
+pub extern "C" fn tb_gather(width: u32, mask: u64, word: u64) -> gather::Gathered
+    ensures { λ r. ⌜ r ≡ answerOf gatherOf width mask word ⌝ }
+{
+    gather::gather(width, mask, word)
+}
+
+#[no_mangle]
+pub extern "C" fn tb_scatter(width: u32, mask: u64, word: u64) -> gather::Gathered
+    ensures { λ r. ⌜ r ≡ answerOf scatterOf width mask word ⌝ }
+{
+    gather::scatter(width, mask, word)
+}
+
+#[no_mangle]
+pub extern "C" fn tb_group(width: u32, mask: u64, word: u64) -> gather::Gathered
+    ensures { λ r. ⌜ r ≡ answerOf groupOf width mask word ⌝ }
+{
+    gather::group(width, mask, word)
+}

@@ -1,0 +1,12 @@
+//! What the tests share: each call beside its model, and inputs for it.
+
+pub mod call;
+pub mod samples;
+
+/// The accepted widths.
+pub const WIDTHS: [u32; 4] = [8, 16, 32, 64];
+
+/// A word with ones at bits 0 to `count` - 1; `count` is at most 64.
+pub fn low_ones(count: u32) -> u64 {
+    u64::MAX.checked_shr(64 - count).unwrap_or(0)
+}

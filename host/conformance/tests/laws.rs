@@ -1,0 +1,71 @@
+//! What demand 2 and paper 01 say of every mask and word, asked of the library.
+
+use conformance::samples::for_each;
+use conformance::{low_ones, WIDTHS};
+use tigbayon::{gather, group, scatter, Refusal};
+
+type Outcome = Result<(), Refusal>;
+
+/// Checks a law on every mask and word of width 8 and on samples of the
+/// other widths.
+fn holds(law: impl Fn(u32, u64, u64) -> Outcome) {
+    for mask in 0..=0xFF {
+        for word in 0..=0xFF {
+            law(8, mask, word).expect("not refused");
+        }
+    }
+    for width in WIDTHS {
+        for_each(width, 200, |mask, word| {
+            law(width, mask, word).expect("not refused")
+        });
+    }
+}
+
+#[test]
+fn scatter_after_gather_zeroes_the_unmarked_bits() {
+    holds(|w, mask, word| {
+        assert_eq!(scatter(w, mask, gather(w, mask, word)?)?, word & mask);
+        Ok(())
+    });
+}
+
+#[test]
+fn gather_after_scatter_keeps_the_rightmost_bits_as_many_as_are_marked() {
+    holds(|w, mask, word| {
+        let kept = word & low_ones(mask.count_ones());
+        assert_eq!(gather(w, mask, scatter(w, mask, word)?)?, kept);
+        Ok(())
+    });
+}
+
+#[test]
+fn group_by_no_bits_or_by_all_gives_the_word_back() {
+    holds(|w, _, word| {
+        assert_eq!(group(w, 0, word)?, word);
+        assert_eq!(group(w, low_ones(w), word)?, word);
+        Ok(())
+    });
+}
+
+/// 001, Section 2.3: grp is "two parallel operations: grp_right (grpr) and
+/// grp_left (grpl)", and pex "is the grp_right half".
+#[test]
+fn group_is_gather_of_the_marked_beside_gather_of_the_unmarked() {
+    holds(|w, mask, word| {
+        let right = gather(w, mask, word)?;
+        let left = gather(w, !mask & low_ones(w), word)?;
+        let left = left.checked_shl(mask.count_ones()).unwrap_or(0);
+        assert_eq!(group(w, mask, word)?, left | right);
+        Ok(())
+    });
+}
+
+#[test]
+fn gather_and_scatter_do_not_look_at_bits_they_do_not_move() {
+    holds(|w, mask, word| {
+        let moved = word & low_ones(mask.count_ones());
+        assert_eq!(gather(w, mask, word & mask)?, gather(w, mask, word)?);
+        assert_eq!(scatter(w, mask, moved)?, scatter(w, mask, word)?);
+        Ok(())
+    });
+}

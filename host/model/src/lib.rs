@@ -1,0 +1,9 @@
+//! An independent model of Tigbayon, written from the papers alone.
+//!
+//! Each definition goes bit by bit and follows the sentence of paper 01 that
+//! it quotes. Nothing here is meant to be fast, and nothing is shared with the
+//! library. The papers' "line" is a bit here.
+
+pub mod bits;
+pub mod gather;
+pub mod refusal;

@@ -1,0 +1,74 @@
+//! The refusal numbers.
+
+use std::error::Error;
+use std::fmt;
+
+/// Why a call was turned back. Where several conditions apply to a call, the
+/// lowest number is answered.
+#[derive(Clone, Copy, Debug, PartialEq, Eq, PartialOrd, Ord, Hash)]
+#[non_exhaustive]
+#[repr(u8)]
+pub enum Refusal {
+    /// The width is not 8, 16, 32 or 64.
+    Width = 1,
+    /// The word or the mask has a one at bit w or above.
+    Above = 2,
+}
+
+impl Refusal {
+    /// Every refusal, by rising number.
+    pub const ALL: [Refusal; 2] = [Refusal::Width, Refusal::Above];
+
+    /// The number, which is part of the interface.
+    ///
+    /// ```
+    /// assert_eq!(tigbayon::Refusal::Above.number(), 2);
+    /// ```
+    pub fn number(self) -> u8 {
+        self as u8
+    }
+
+    fn condition(self) -> &'static str {
+        match self {
+            Refusal::Width => "width not 8, 16, 32, 64",
+            Refusal::Above => "word or mask has a one at bit w or above",
+        }
+    }
+
+    /// Reads the library's number: 0 where the call was carried out.
+    pub(crate) fn check(number: u8) -> Result<(), Refusal> {
+        if number == 0 {
+            return Ok(());
+        }
+        let refusal = Refusal::ALL.into_iter().find(|r| r.number() == number);
+        Err(refusal.unwrap_or_else(|| panic!("libtigbayon answered unknown refusal {number}")))
+    }
+}
+
+impl fmt::Display for Refusal {
+    fn fmt(&self, f: &mut fmt::Formatter<'_>) -> fmt::Result {
+        write!(f, "refusal {}: {}", self.number(), self.condition())
+    }
+}
+
+impl Error for Refusal {}
+
+#[cfg(test)]
+mod tests {
+    use super::*;
+
+    #[test]
+    fn numbers_rise_from_one_and_are_read_back() {
+        for (number, refusal) in (1..).zip(Refusal::ALL) {
+            assert_eq!(refusal.number(), number);
+            assert_eq!(Refusal::check(number), Err(refusal));
+        }
+        assert_eq!(Refusal::check(0), Ok(()));
+    }
+
+    #[test]
+    fn is_shown_with_number_and_condition() {
+        let shown = Refusal::Width.to_string();
+        assert_eq!(shown, "refusal 1: width not 8, 16, 32, 64");
+    }
+}
