@@ -7,13 +7,15 @@
  * word or a mask of width w has zeros at bit w and above. The ones of a mask
  * mark bits: m0, m1, .. are the marked bits from the right, k is their count.
  *
- * Every function here is answered for every input: there is no argument that
- * it may not be given. A call that breaks a limit is refused, every other call
- * is carried out, and each call ends. No function keeps state, allocates or
- * reads anything but its arguments.
+ * Every function here is answered for every input: there is no number that it
+ * may not be given, and a pointer need only point to as many numbers as its
+ * declaration says. A call that breaks a limit is refused, every other call is
+ * carried out, and each call ends. No function keeps state or allocates. None
+ * touches any memory but what its arguments point to, and where that is const
+ * it is only read.
  *
- * Later functions (networks, decoder, routing, packing, register unit) are
- * added to this header; a refusal number, once given, keeps its meaning.
+ * Later functions (routing, packing, register unit) are added to this header;
+ * a refusal number, once given, keeps its meaning.
  */
 #ifndef TIGBAYON_H
 #define TIGBAYON_H
@@ -31,7 +33,8 @@ extern "C" {
 enum TbRefusal {
     TB_CARRIED_OUT = 0,   /* not refused */
     TB_REFUSAL_WIDTH = 1, /* width not 8, 16, 32, 64 */
-    TB_REFUSAL_ABOVE = 2  /* word or mask has a one at bit w or above */
+    TB_REFUSAL_ABOVE = 2, /* word or mask has a one at bit w or above */
+    TB_REFUSAL_UNUSED = 3 /* a one in an unused control bit or stage */
 };
 
 /* The answer of tb_gather, tb_scatter and tb_group. */
@@ -61,6 +64,56 @@ TbGathered tb_scatter(uint32_t width, uint64_t mask, uint64_t word);
  * Refusals: TB_REFUSAL_WIDTH, TB_REFUSAL_ABOVE.
  */
 TbGathered tb_group(uint32_t width, uint64_t mask, uint64_t word);
+
+/*
+ * Networks. At width w = 2^L a network has L stages of w/2 two-bit switches.
+ * At distance d, switch j*d + t, for t below d, joins bits 2*j*d + t and
+ * 2*j*d + t + d. It is set by its control bit, bit j*d + t of the stage: one
+ * means pass, zero means swap.
+ *
+ * The controls of one network are six stages of 32 bits, in the direction of
+ * travel. Stages 0 to L-1 use their bits 0 to w/2 - 1. Every other bit and
+ * stage is unused, and zero.
+ */
+
+/* The answer of tb_butterfly and tb_inverse. */
+typedef struct {
+    uint8_t refusal; /* an enum TbRefusal */
+    uint64_t word;   /* the result; 0 if the call is refused */
+} TbCarried;
+
+/* The answer of tb_decode: controls for both networks. */
+typedef struct {
+    uint8_t refusal;       /* an enum TbRefusal */
+    uint32_t butterfly[6]; /* for tb_butterfly; zeros if the call is refused */
+    uint32_t inverse[6];   /* for tb_inverse; zeros if the call is refused */
+} TbControls2;
+
+/*
+ * Butterfly (bfly): the word sent through stages of distances w/2, .., 2, 1.
+ * Controls of zero reverse the word.
+ * Refusals: TB_REFUSAL_WIDTH, TB_REFUSAL_ABOVE, TB_REFUSAL_UNUSED.
+ */
+TbCarried tb_butterfly(uint32_t width, const uint32_t stages[6], uint64_t word);
+
+/*
+ * Inverse butterfly (ibfly): the word sent through stages of distances 1, 2,
+ * .., w/2. Controls of zero reverse the word.
+ * Refusals: TB_REFUSAL_WIDTH, TB_REFUSAL_ABOVE, TB_REFUSAL_UNUSED.
+ */
+TbCarried tb_inverse(uint32_t width, const uint32_t stages[6], uint64_t word);
+
+/*
+ * Decode: the controls by which the networks scatter and gather. At distance
+ * d, control bits j*d to j*d + d-1 are d zeros turned left once for each one
+ * of the mask in bits 0 to 2*j*d + d-1, where a turn moves the top bit to the
+ * bottom and complements it. The inverse has the butterfly's stages in
+ * reversed order, each stage's bits as they are. For each word of the width,
+ *   tb_scatter(w, mask, word) is tb_butterfly(w, butterfly, word) & mask,
+ *   tb_gather(w, mask, word) is tb_inverse(w, inverse, word & mask).
+ * Refusals: TB_REFUSAL_WIDTH, TB_REFUSAL_ABOVE.
+ */
+TbControls2 tb_decode(uint32_t width, uint64_t mask);
 
 #ifdef __cplusplus
 }

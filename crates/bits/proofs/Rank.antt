@@ -4,12 +4,12 @@ use mathlib.Core.Logic.{_⊎_, inl, inr}
 use Prim.Native.Nat.{ℕ, zero, suc, _+_, _-_, _/_, _%_, _^_, _<_, _≤_}
 use native.Mathlib.Omega.{arith}
 use native.Mathlib.Decide.{decLt}
-use native.Mathlib.Nat.{not-suc-le-zero, pow-suc}
+use native.Mathlib.Nat.{not-suc-le-zero, pow-suc, mod-lt}
 use lib.Arith.{lt-one}
-use lib.Pow.{pow-mono}
+use lib.Pow.{pow-mono, pow-pos}
 use lib.Count.{ones, ones-step}
 use Rattle.bits.specs.Bit.{bit, rank}
-use Rattle.bits.proofs.Word.{bit-lt, bit-cases, bit-zero, bit-suc, bit-not}
+use Rattle.bits.proofs.Word.{bit-lt, bit-cases, bit-zero, bit-suc, bit-not, bit-mod}
 
 pub rank-le : (m p : ℕ) → rank m p ≤ p
 unfolding rank
@@ -69,3 +69,12 @@ pub rank-not : (w : ℕ) {m : ℕ} → m < 2 ^ w → (p : ℕ) → p ≤ w → r
 unfolding rank
 rank-not w h zero l = refl
 rank-not w {m} h (suc p) l = omega (arith, rank-not w h p (omega arith), bit-not w p h l, bit-lt m p)
+
+-- the ones below a place are counted in the remainder
+pub rank-mod : (m q p : ℕ) → p ≤ q → rank (m % 2 ^ q) p ≡ rank m p
+unfolding rank
+rank-mod m q zero h = refl
+rank-mod m q (suc p) h = omega (arith, rank-mod m q p (omega arith), bit-mod m q p h)
+
+pub rank-rest : (m q : ℕ) → q ≤ 64 → rank (m % 2 ^ q) 64 ≡ rank m q
+rank-rest m q h = rank-wider (mod-lt m (pow-pos q)) h ∙ rank-mod m q q (omega arith)

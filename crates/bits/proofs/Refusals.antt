@@ -70,6 +70,14 @@ log-width w h = by-cases (log-in 3 6 logs (omega arith) w)
     by-cases (inl e) = absurd (true≢false (sym h ∙ ap not (eq-eqb (logOf w) 0 e)))
     by-cases (inr r) = r
 
+pub log-le : (w : ℕ) → logOf w ≤ 6
+unfolding Between Logged
+log-le w = by-cases (log-in 3 6 logs (omega arith) w)
+  where
+    by-cases : (logOf w ≡ 0) ⊎ Logged 3 6 w (logOf w) → logOf w ≤ 6
+    by-cases (inl e) = omega arith
+    by-cases (inr r) = r .2
+
 pub not-width : (w : ℕ) → logOf w ≡ 0 → accepted w ≡ false
 not-width w e = ap not (eq-eqb (logOf w) 0 e)
 

@@ -4,7 +4,8 @@ use mathlib.Core.Path.{_≡_, refl, sym, _∙_, ap}
 use mathlib.Core.Logic.{_⊎_, inl, inr, _↔_}
 use Prim.Native.Nat.{ℕ, zero, suc, _+_, _-_, _*_, _/_, _%_, _^_, _<_, _≤_, min, max}
 use native.Mathlib.Omega.{arith}
-use native.Mathlib.Nat.{div-one, pow-suc, pow-zero, pow-succ', mod-lt, mod-mod, mod-eq-of-lt, div-eq-of-lt, div-div-eq-div-mul, zero-div, zero-mod, div-lt-iff-lt-mul, one-mul, not-suc-le-zero, add-zero}
+use native.Mathlib.Nat.{div-one, pow-suc, pow-zero, pow-succ', mod-lt, mod-mod, mod-eq-of-lt, div-eq-of-lt, div-div-eq-div-mul, zero-div, zero-mod, div-lt-iff-lt-mul, one-mul, mul-le-mul-right, not-suc-le-zero, add-zero}
+use native.Mathlib.Decide.{decLt}
 use lib.Arith.{digits-div, digits-mod, lt-one}
 use lib.Pow.{pow-pos, pow-mono, pow-add, shr-shr, shl-shr, high, low, field, mod-mod-pow, split, ones-lt}
 use lib.Bits.{bitAnd, bitOr, bitXor, differ, and-step, or-step, xor-step, and-shr, or-shr, xor-shr}
@@ -16,7 +17,7 @@ pub bit-lt : (x i : ℕ) → bit x i < 2
 unfolding bit
 bit-lt x i = mod-lt (x / 2 ^ i) (omega arith)
 
-digit : (b : ℕ) → b < 2 → (b ≡ 0) ⊎ (b ≡ 1)
+pub digit : (b : ℕ) → b < 2 → (b ≡ 0) ⊎ (b ≡ 1)
 digit zero h = inl refl
 digit (suc zero) h = inr refl
 digit (suc (suc b)) h = absurd (omega arith)
@@ -76,6 +77,15 @@ bit-shl-low a k i l =
 
 pub bit-shl-high : (a k i : ℕ) → bit (a * 2 ^ k) (k + i) ≡ bit a i
 bit-shl-high a k i = ap (λ (n : ℕ). bit n (k + i)) (sym (add-zero (a * 2 ^ k))) ∙ bit-cat-high a k i (pow-pos k)
+
+-- a shift that drops what passes the width
+
+module _ (x k : ℕ) {w : ℕ} (i : ℕ) where
+  pub bit-shl-below : i < w → i < k → bit (x * 2 ^ k % 2 ^ w) i ≡ 0
+  bit-shl-below h l = bit-mod (x * 2 ^ k) w i h ∙ bit-shl-low x k i l
+
+  pub bit-shl-from : (j : ℕ) → i < w → k + j ≡ i → bit (x * 2 ^ k % 2 ^ w) i ≡ bit x j
+  bit-shl-from j h e = bit-mod (x * 2 ^ k) w i h ∙ ap (bit (x * 2 ^ k)) (sym e) ∙ bit-shl-high x k j
 
 -- a word is determined by its bits
 
@@ -163,3 +173,31 @@ bit-not (suc w) {x} (suc i) h l =
     ∙ ap (λ (n : ℕ). bit n i) half
     ∙ bit-not w i (omega (arith, pow-suc 2 w, h)) (omega arith)
     ∙ ap (λ (n : ℕ). 1 - n) (sym (bit-suc x i))
+
+-- words built end to end
+pub ofBits-add : (a b : ℕ) (f : ℕ → ℕ) → ofBits (a + b) f ≡ ofBits b (λ i. f (a + i)) * 2 ^ a + ofBits a f
+ofBits-add a b f =
+    ext (a + b) (ofBits-lt (a + b) f)
+    (rw pow-add (omega (arith, mul-le-mul-right (2 ^ a) (ofBits-lt b g), ofBits-lt a f)))
+    (λ i l. bit-ofBits (a + b) f i l ∙ sym (same i l (decLt i a)))
+  where
+    g : ℕ → ℕ
+    g i = f (a + i)
+
+    same : (i : ℕ) → i < a + b → Dec (i < a) → bit (ofBits b g * 2 ^ a + ofBits a f) i ≡ f i % 2
+    same i l (yes h) = bit-cat-low (ofBits b g) a i (ofBits-lt a f) h ∙ bit-ofBits a f i h
+    same i l (no n) =
+        let e : a + (i - a) ≡ i = omega arith in
+        ap (bit (ofBits b g * 2 ^ a + ofBits a f)) (sym e)
+        ∙ bit-cat-high (ofBits b g) a (i - a) (ofBits-lt a f)
+        ∙ bit-ofBits b g (i - a) (omega arith)
+        ∙ ap (λ (j : ℕ). f j % 2) e
+
+-- k ones
+pub bit-ones : (k i : ℕ) → i < k → bit (2 ^ k - 1) i ≡ 1
+bit-ones k i h =
+    let e : 2 ^ k - 1 ≡ (2 ^ k - 1) - 0 = omega arith in
+    ap (λ (n : ℕ). bit n i) e ∙ bit-not k {x = 0} i (pow-pos k) h ∙ omega (arith, bit-of-zero i)
+
+pub bit-ones-above : (k i : ℕ) → k ≤ i → bit (2 ^ k - 1) i ≡ 0
+bit-ones-above k i h = bit-above i (ones-lt k) h

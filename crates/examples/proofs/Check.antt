@@ -4,7 +4,10 @@ use mathlib.Core.Bool.{Bool, true, false, _&&_}
 use mathlib.Core.List.{List, [], _∷_}
 use Prim.Native.Nat.{ℕ}
 use lib.Dec.{T, eqb, eqb→eq}
-use Rattle.bits.specs.Bit.{bit, ofBits, places, pick, put}
+use Rattle.bits.specs.Bit.{bit, ofBits, rank, places, pick, put}
+use Rattle.network.specs.Stage.{switchOf, partner, source, stage, travel, falling, butterflyOf}
+use Rattle.network.specs.Decoder.{turn, turned, controlAt, column, decodeOf, decodeInverseOf}
+use Rattle.network.specs.Calls.{carryRefusal, carryAnswer, decodeRefusal, decodeAnswer}
 use Rattle.gather.specs.Gather.{gatherOf, scatterOf, groupOf, refusalOf, answerOf}
 use Rattle.examples.specs.Rows.{Row, outcomeOf, rows, Hold}
 
@@ -37,7 +40,9 @@ holds (r ∷ rs) t =
     (same-eq (outcomeOf (r .call)) (r .outcome) (b .0), holds rs (b .1))
 
 test : T (allHold rows)
-unfolding allHold same outcomeOf answerOf refusalOf gatherOf scatterOf groupOf pick put places ofBits bit
+unfolding allHold same outcomeOf answerOf refusalOf gatherOf scatterOf groupOf pick put places ofBits bit rank
+    carryAnswer carryRefusal butterflyOf travel stage source partner switchOf falling
+    decodeAnswer decodeRefusal decodeOf decodeInverseOf column controlAt turned turn
 test = tt
 
 -- Every marked row: its call has its outcome.

@@ -39,9 +39,6 @@ module _ (w m x : ℕ) where
       by-tests true false g p q r z = absurd (omega arith)
       by-tests false f g p q r z = absurd (omega arith)
 
-  pub within-limits : {n : ℕ} → n ≡ refusalOf w m x → n ≡ 0 → (w ≤ 64) × (m < 2 ^ w)
-  within-limits e z = let l = within (sym e ∙ z) in (width-le w (l .0), l .2)
-
   module _ (f : ℕ → ℕ → ℕ → ℕ) {n : ℕ} (e : n ≡ refusalOf w m x) where
     pub refused : (n ≡ 0 → ⊥) → _≡_ {A = Gathered} (record { refusal = n; word = 0 }) (answerOf f w m x)
     unfolding answerOf
@@ -50,3 +47,8 @@ module _ (w m x : ℕ) where
     pub carried-out : n ≡ 0 → {y : ℕ} → y ≡ f w m x → _≡_ {A = Gathered} (record { refusal = 0; word = y }) (answerOf f w m x)
     unfolding answerOf
     carried-out z y = rw (← e, eq-eqb n 0 z, y)
+
+    -- the code computes at width 64
+    pub carried-out-64 : n ≡ 0 → (w ≤ 64 → m < 2 ^ w → x < 2 ^ w → f 64 m x ≡ f w m x) → {y : ℕ} → y ≡ f 64 m x
+        → _≡_ {A = Gathered} (record { refusal = 0; word = y }) (answerOf f w m x)
+    carried-out-64 z same y = let l = within (sym e ∙ z) in carried-out z (y ∙ same (width-le w (l .0)) (l .2) (l .1))

@@ -1,6 +1,7 @@
 // Gather, scatter and group: the bits of a word by a mask (paper 01, 'Lines, masks, orders').
 ghost use mathlib.Core.Path.{_≡_};
 ghost use Prim.Native.Nat.{_^_, _≤_, _<_};
+ghost use Rattle.gather.specs.Moves.{Parities, Moves};
 ghost use Rattle.gather.specs.Gather.{gatherOf, scatterOf, groupOf, refusalOf, answerOf};
 
 // What a call answers: 0 and the word, or the number of the refusal and a zero.
@@ -26,51 +27,74 @@ fn refusal(width: u32, mask: u64, word: u64) -> u8
     bits::CARRIED_OUT
 }
 
-// internal: a width of at most 64. Each marked bit goes to the next free place from the right.
-fn gather_bits(width: u64, mask: u64, word: u64) -> u64
-    requires { ⌜ width ≤ 64 ⌝ }
-    ensures { λ r. ⌜ r ≡ gatherOf width mask word ⌝ }
+// internal: bit q is the parity of bits 0 to q of x
+fn parities(x: u64) -> u64
+    ensures { λ r. ⌜ Parities x r ⌝ }
 {
-    let mut out: u64 = 0;
-    let mut count: u64 = 0;
-    let mut place: u64 = 0;
-    while place < width {
-        let marked = bits::bit_at(mask, place);
-        out += (marked & bits::bit_at(word, place)) << count;
-        count += marked;
-        place += 1;
+    let by_2 = x ^ (x << 1);
+    let by_4 = by_2 ^ (by_2 << 2);
+    let by_8 = by_4 ^ (by_4 << 4);
+    let by_16 = by_8 ^ (by_8 << 8);
+    let by_32 = by_16 ^ (by_16 << 16);
+    by_32 ^ (by_32 << 32)
+}
+
+// internal: bit q of word i is bit i of the number of unmarked places below q. `ones` has that many ones up to q; a turn clears those
+// of odd number, which halves every count.
+fn moves(mask: u64) -> [u64; 6]
+    ensures { λ r. ⌜ Moves mask 6 r ⌝ }
+{
+    let mut words = [0u64; 6];
+    let mut ones = !mask << 1;
+    let mut i: usize = 0;
+    while i < 6 {
+        let word = parities(ones);
+        words[i] = word;
+        ones &= !word;
+        i += 1;
+    }
+    words
+}
+
+// internal: gather at width 64. A marked bit goes down by the number of unmarked places below it, one power of two a turn.
+fn compress(mask: u64, word: u64) -> u64
+    ensures { λ r. ⌜ r ≡ gatherOf 64 mask word ⌝ }
+{
+    let words = moves(mask);
+    let mut out = word & mask;
+    let mut i: usize = 0;
+    while i < 6 {
+        let moved = out & words[i];
+        out = (out ^ moved) | (moved >> (1u64 << i));
+        i += 1;
     }
     out
 }
 
-// internal: a width of at most 64. Each marked place takes the next bit of the word.
-fn scatter_bits(width: u64, mask: u64, word: u64) -> u64
-    requires { ⌜ width ≤ 64 ⌝ }
-    ensures { λ r. ⌜ r ≡ scatterOf width mask word ⌝ }
+// internal: scatter at width 64. The same moves upward, from the last.
+fn expand(mask: u64, word: u64) -> u64
+    ensures { λ r. ⌜ r ≡ scatterOf 64 mask word ⌝ }
 {
-    let mut out: u64 = 0;
-    let mut count: u64 = 0;
-    let mut place: u64 = 0;
-    while place < width {
-        let marked = bits::bit_at(mask, place);
-        out += (marked & bits::bit_at(word, count)) << place;
-        count += marked;
-        place += 1;
+    let words = moves(mask);
+    let mut out = word;
+    let mut i: usize = 6;
+    while 0 < i {
+        i -= 1;
+        out ^= (out ^ (out << (1u64 << i))) & words[i];
     }
-    out
+    out & mask
 }
 
-// internal: a width of at most 64, a mask of that width. The marked bits, and above them the unmarked ones; with all 64 marked there are none.
-fn group_bits(width: u64, mask: u64, word: u64) -> u64
-    requires { ⌜ (width ≤ 64) × (mask < 2 ^ width) ⌝ }
-    ensures { λ r. ⌜ r ≡ groupOf width mask word ⌝ }
+// internal: group at width 64. The marked bits, and above them the unmarked ones; with all 64 marked there are none.
+fn group_bits(mask: u64, word: u64) -> u64
+    ensures { λ r. ⌜ r ≡ groupOf 64 mask word ⌝ }
 {
-    let low = gather_bits(width, mask, word);
+    let low = compress(mask, word);
     let count = bits::count(mask);
     if count == 64 {
         return low;
     }
-    low + (gather_bits(width, !mask, word) << count)
+    low + (compress(!mask, word) << count)
 }
 
 // The marked bits of the word, brought to the right in order, zeros above.
@@ -86,7 +110,7 @@ pub fn gather(width: u32, mask: u64, word: u64) -> Gathered
     }
     Gathered {
         refusal: 0,
-        word: gather_bits(width as u64, mask, word),
+        word: compress(mask, word),
     }
 }
 
@@ -103,7 +127,7 @@ pub fn scatter(width: u32, mask: u64, word: u64) -> Gathered
     }
     Gathered {
         refusal: 0,
-        word: scatter_bits(width as u64, mask, word),
+        word: expand(mask, word),
     }
 }
 
@@ -120,6 +144,6 @@ pub fn group(width: u32, mask: u64, word: u64) -> Gathered
     }
     Gathered {
         refusal: 0,
-        word: group_bits(width as u64, mask, word),
+        word: group_bits(mask, word),
     }
 }

@@ -1,6 +1,8 @@
 // The exported C functions, declared in include/tigbayon.h: each hands its arguments to the call it is named for.
 // No logic is here, and each promise is that call's.
 ghost use mathlib.Core.Path.{_≡_};
+ghost use Rattle.network.specs.Stage.{butterflyOf, inverseOf};
+ghost use Rattle.network.specs.Calls.{carryAnswer, decodeAnswer};
 ghost use Rattle.gather.specs.Gather.{gatherOf, scatterOf, groupOf, answerOf};
 
 #[no_mangle]
@@ -22,4 +24,27 @@ pub extern "C" fn tb_group(width: u32, mask: u64, word: u64) -> gather::Gathered
     ensures { λ r. ⌜ r ≡ answerOf groupOf width mask word ⌝ }
 {
     gather::group(width, mask, word)
+}
+
+#[no_mangle]
+pub extern "C" fn tb_butterfly(width: u32, stages: &[u32; 6], word: u64) -> network::Carried
+    ensures { λ r. ⌜ r ≡ carryAnswer butterflyOf width (record { stages = now (stages .entry) }) word ⌝ }
+{
+    let stages = *stages;
+    network::butterfly(width, network::Controls { stages }, word)
+}
+
+#[no_mangle]
+pub extern "C" fn tb_inverse(width: u32, stages: &[u32; 6], word: u64) -> network::Carried
+    ensures { λ r. ⌜ r ≡ carryAnswer inverseOf width (record { stages = now (stages .entry) }) word ⌝ }
+{
+    let stages = *stages;
+    network::inverse(width, network::Controls { stages }, word)
+}
+
+#[no_mangle]
+pub extern "C" fn tb_decode(width: u32, mask: u64) -> network::Decoded
+    ensures { λ r. ⌜ r ≡ decodeAnswer width mask ⌝ }
+{
+    network::decode(width, mask)
 }

@@ -1,6 +1,7 @@
 //! What the tests share: each call beside its model, and inputs for it.
 
 pub mod call;
+pub mod controls;
 pub mod samples;
 
 /// The accepted widths.

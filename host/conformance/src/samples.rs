@@ -1,5 +1,6 @@
-//! Random and structured words, the same in every run.
+//! Random and structured words and controls, the same in every run.
 
+use crate::controls::{stages, Controls};
 use crate::low_ones;
 
 /// The seed of every test's samples.
@@ -31,7 +32,7 @@ impl Random {
 }
 
 /// A kind of word; made for a width, it may have ones above it, which
-/// [`for_each`] cuts off.
+/// [`word`] cuts off.
 type Shape = fn(&mut Random, u32) -> u64;
 
 const SHAPES: [Shape; 10] = [
@@ -56,17 +57,45 @@ fn run(random: &mut Random, width: u32) -> u64 {
     low_ones(1 + random.below(width - start)) << start
 }
 
+/// A word of this shape and width.
+fn word(random: &mut Random, shape: Shape, width: u32) -> u64 {
+    shape(random, width) & low_ones(width)
+}
+
+/// Controls of this width, each stage of this shape.
+fn controls(random: &mut Random, shape: Shape, width: u32) -> Controls {
+    let mut controls = Controls::default();
+    for stage in &mut controls[..stages(width)] {
+        *stage = word(random, shape, width / 2) as u32;
+    }
+    controls
+}
+
 /// Hands `rounds` masks and words of each pair of shapes to `test`, and
 /// answers how many that were.
-pub fn for_each(width: u32, rounds: u32, mut test: impl FnMut(u64, u64)) -> u32 {
+pub fn for_each(width: u32, rounds: u32, test: impl FnMut(u64, u64)) -> u32 {
+    for_each_pair(width, rounds, word, test)
+}
+
+/// Hands `rounds` controls and words of each pair of shapes to `test`, and
+/// answers how many that were.
+pub fn for_each_controls(width: u32, rounds: u32, test: impl FnMut(Controls, u64)) -> u32 {
+    for_each_pair(width, rounds, controls, test)
+}
+
+fn for_each_pair<X>(
+    width: u32,
+    rounds: u32,
+    make: fn(&mut Random, Shape, u32) -> X,
+    mut test: impl FnMut(X, u64),
+) -> u32 {
     let mut random = Random::default();
     let mut count = 0;
-    for mask_shape in SHAPES {
-        for word_shape in SHAPES {
+    for first in SHAPES {
+        for second in SHAPES {
             for _ in 0..rounds {
-                let mask = mask_shape(&mut random, width) & low_ones(width);
-                let word = word_shape(&mut random, width) & low_ones(width);
-                test(mask, word);
+                let made = make(&mut random, first, width);
+                test(made, word(&mut random, second, width));
                 count += 1;
             }
         }

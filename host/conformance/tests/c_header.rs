@@ -4,7 +4,7 @@
 use std::mem::{offset_of, size_of};
 use std::path::Path;
 use std::process::Command;
-use tigbayon::{Refusal, TbGathered};
+use tigbayon::{Refusal, TbCarried, TbControls2, TbGathered};
 
 const CRATE: &str = env!("CARGO_MANIFEST_DIR");
 
@@ -27,22 +27,40 @@ fn compile_and_run(compiler: &str, language: &str, standard: &str) -> String {
     String::from_utf8(output.stdout).expect("ASCII")
 }
 
+/// Each struct's size and the offsets of its fields.
+fn layouts() -> String {
+    macro_rules! layout {
+        ($name:ident, $($field:ident),+) => {
+            format!(
+                "{} {}: {}\n",
+                stringify!($name),
+                size_of::<$name>(),
+                [$(offset_of!($name, $field).to_string()),+].join(" ")
+            )
+        };
+    }
+    layout!(TbGathered, refusal, word)
+        + &layout!(TbCarried, refusal, word)
+        + &layout!(TbControls2, refusal, butterfly, inverse)
+}
+
 fn expected() -> String {
-    format!(
-        "size {}, refusal at {}, word at {}\n\
-         numbers 0 {} {}\n\
-         gather 0 1a\n\
-         scatter 0 a4\n\
-         group 0 7a\n\
-         gather 1 0\n\
-         scatter 2 0\n\
-         group 0 5\n",
-        size_of::<TbGathered>(),
-        offset_of!(TbGathered, refusal),
-        offset_of!(TbGathered, word),
-        Refusal::Width.number(),
-        Refusal::Above.number(),
-    )
+    let numbers = Refusal::ALL.map(|refusal| format!(" {}", refusal.number()));
+    let answers = "\
+        gather 0 1a\n\
+        scatter 0 a4\n\
+        group 0 7a\n\
+        gather 1 0\n\
+        scatter 2 0\n\
+        group 0 5\n\
+        decode 0 7 1 5 0 0 0 5 1 7 0 0 0\n\
+        decode 0 0 0 0 0 0 0 0 0 0 0 0 0\n\
+        decode 2 0 0 0 0 0 0 0 0 0 0 0 0\n\
+        butterfly 0 80\n\
+        butterfly 3 0\n\
+        inverse 0 1a\n\
+        inverse 1 0\n";
+    format!("{}numbers 0{}\n{answers}", layouts(), numbers.concat())
 }
 
 #[test]

@@ -1,8 +1,9 @@
-//! What demand 2 and paper 01 say of every mask and word, asked of the library.
+//! What the demands and paper 01 say of every mask and word, asked of the
+//! library.
 
 use conformance::samples::for_each;
 use conformance::{low_ones, WIDTHS};
-use tigbayon::{gather, group, scatter, Refusal};
+use tigbayon::{butterfly, decode, gather, group, inverse, scatter, Refusal};
 
 type Outcome = Result<(), Refusal>;
 
@@ -66,6 +67,26 @@ fn gather_and_scatter_do_not_look_at_bits_they_do_not_move() {
         let moved = word & low_ones(mask.count_ones());
         assert_eq!(gather(w, mask, word & mask)?, gather(w, mask, word)?);
         assert_eq!(scatter(w, mask, moved)?, scatter(w, mask, word)?);
+        Ok(())
+    });
+}
+
+#[test]
+fn butterfly_on_decoded_controls_then_the_mask_scatters() {
+    holds(|w, mask, word| {
+        let controls = decode(w, mask)?.butterfly;
+        let carried = butterfly(w, &controls, word)?;
+        assert_eq!(carried & mask, scatter(w, mask, word)?);
+        Ok(())
+    });
+}
+
+#[test]
+fn the_mask_then_inverse_on_decoded_controls_gathers() {
+    holds(|w, mask, word| {
+        let controls = decode(w, mask)?.inverse;
+        let carried = inverse(w, &controls, word & mask)?;
+        assert_eq!(carried, gather(w, mask, word)?);
         Ok(())
     });
 }

@@ -2,8 +2,10 @@
 //! scatter, grp is group. Where a figure's numbers are not in its text, the
 //! mask is the one the text describes and the word is ours.
 
-use conformance::call::{GATHER, GROUP, SCATTER};
+use conformance::call::{decode, BUTTERFLY, GATHER, GROUP, SCATTER};
+use conformance::controls::stages;
 use conformance::samples::for_each;
+use conformance::{low_ones, WIDTHS};
 
 /// Bit 7 of an 8-bit word is a, bit 0 is h, as in Fig. 6; '0' is a zero.
 fn letters(pattern: &str, word: u64) -> u64 {
@@ -42,6 +44,64 @@ fn fig_6_mask_grp() {
     for word in 0..=0xFF {
         let result = GROUP.result(8, 0b1010_1101, word);
         assert_eq!(result, letters("bdgacefh", word));
+    }
+}
+
+/// Section 3.1, Fig. 6b: "we transfer from the right (R) to the left half (L)
+/// the bits whose destination is in L, namely bits d and e", so that L holds
+/// "e00d". The other stages pass.
+#[test]
+fn fig_6_first_stage() {
+    let controls = [0b0111, 0b1111, 0b1111, 0, 0, 0];
+    for word in 0..=0xFF {
+        let result = BUTTERFLY.result(8, controls, word);
+        assert_eq!(result, letters("ebcdafgh", word));
+    }
+}
+
+/// Section 7.1, "using the example of Fig. 6c": stage 1 is LROTC(0^4, 3), the
+/// halves of stage 2 are LROTC(0^2, 4) and LROTC(0^2, 1), and the quarters of
+/// stage 3 are LROTC(0^1, ..) by 4, 3, 2 and 1. Section 7.1.1: stage i "of the
+/// butterfly datapath" is "stage lg(n)-i+1 in the inverse".
+#[test]
+fn fig_6_mask_decoded() {
+    let decoded = decode(8, 0b1010_1101);
+    let [stage_1, stage_2, stage_3] = [0b0111, 0b00_01, 0b0_1_0_1];
+    assert_eq!(decoded.butterfly, [stage_1, stage_2, stage_3, 0, 0, 0]);
+    assert_eq!(decoded.inverse, [stage_3, stage_2, stage_1, 0, 0, 0]);
+}
+
+/// Section 3.1, Fig. 6c: the same "without explicit rotations".
+#[test]
+fn fig_6_pdep_on_the_butterfly() {
+    let mask = 0b1010_1101;
+    let controls = decode(8, mask).butterfly;
+    for word in 0..=0xFF {
+        let result = BUTTERFLY.result(8, controls, word);
+        assert_eq!(result & mask, letters("d0e0fg0h", word));
+    }
+}
+
+/// Section 7.1, Fig. 29: LROTC("0000", 3) = "0111".
+#[test]
+fn fig_29_three_ones_in_the_right_half() {
+    for right_half in [0b0111, 0b1011, 0b1101, 0b1110] {
+        assert_eq!(decode(8, right_half).butterfly[0], 0b0111);
+    }
+}
+
+/// Section 7.2: "for the counts of the last butterfly stage, the LROTC
+/// circuits can be eliminated as LROTC("0", b) = b for single bit b".
+#[test]
+fn last_stage_is_the_lowest_bit_of_each_count() {
+    for width in WIDTHS {
+        for_each(width, 10, |mask, _| {
+            let last_stage = decode(width, mask).butterfly[stages(width) - 1];
+            for switch in 0..width / 2 {
+                let count = (mask & low_ones(2 * switch + 1)).count_ones();
+                assert_eq!(last_stage >> switch & 1, count & 1);
+            }
+        });
     }
 }
 

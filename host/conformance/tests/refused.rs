@@ -1,8 +1,10 @@
-//! Damaged inputs get the lowest number that applies, and a word of zero.
+//! Damaged inputs get the lowest number that applies, and zeros for the rest.
 
-use conformance::call::CALLS;
+use conformance::call::{Call, DECODE, MASK_CALLS, NETWORKS};
+use conformance::controls::{pass_all, stages, Controls};
 use conformance::{low_ones, WIDTHS};
-use model::gather::Gathered;
+use model::refusal::Answer;
+use std::fmt::Debug;
 
 /// Widths above 130, among them some that a narrower integer would cut to an
 /// accepted one.
@@ -39,44 +41,99 @@ const WORDS: [u64; 14] = [
     u64::MAX << 32,
 ];
 
-fn assert_refused(number: u8, width: u32, mask: u64, word: u64) {
-    let refused = Gathered {
-        refusal: number,
-        word: 0,
-    };
-    for call in CALLS {
-        let answer = call.check(width, mask, word);
-        assert_eq!(answer, refused, "{} {width} {mask:#x} {word:#x}", call.name);
+/// Controls that are used at every width, or only from some width on.
+const CONTROLS: [Controls; 9] = [
+    [0; 6],
+    [0xF, 0xF, 0xF, 0, 0, 0],
+    [0xFF, 0xFF, 0xFF, 0xFF, 0, 0],
+    [0xFFFF, 0xFFFF, 0xFFFF, 0xFFFF, 0xFFFF, 0],
+    [u32::MAX; 6],
+    [0x10, 0, 0, 0, 0, 0],
+    [0, 0, 0, 1, 0, 0],
+    [0, 1 << 31, 0, 0, 0, 0],
+    [0, 0, 0, 0, 0, 1 << 31],
+];
+
+/// Checks that the calls are refused by this number, or carried out if it is 0.
+fn assert_number<X, R>(calls: &[Call<X, R>], number: u8, width: u32, by: X, word: u64)
+where
+    X: Copy + Debug,
+    R: Copy + Debug + Default + PartialEq,
+{
+    for call in calls {
+        let answer = call.check(width, by, word);
+        let input = || format!("{} {width} {by:x?} {word:x}", call.name);
+        assert_eq!(answer.refusal, number, "{}", input());
+        if number != 0 {
+            assert_eq!(answer, Answer::refused(number), "{}", input());
+        }
     }
 }
 
-fn for_each_mask_and_word(test: impl Fn(u64, u64)) {
-    for mask in WORDS {
+/// Widths that are not accepted.
+fn other_widths() -> impl Iterator<Item = u32> {
+    let widths = (0..=130).chain(HUGE_WIDTHS);
+    widths.filter(|width| !WIDTHS.contains(width))
+}
+
+/// 2 if the word has a one at bit w or above, else the other number.
+fn above_or(width: u32, word: u64, other: u8) -> u8 {
+    if word & !low_ones(width) != 0 {
+        2
+    } else {
+        other
+    }
+}
+
+/// Every stage with every bit of it.
+fn control_bits() -> impl Iterator<Item = (usize, u32)> {
+    (0..6).flat_map(|stage| (0..32).map(move |bit| (stage, bit)))
+}
+
+/// "a column uses w/2 bits", and there are L columns.
+fn is_used(width: u32, stage: usize, bit: u32) -> bool {
+    stage < stages(width) && bit < width / 2
+}
+
+/// 3 if the controls have a one in an unused bit or stage, else 0.
+fn unused(width: u32, controls: Controls) -> u8 {
+    let mut ones = control_bits().filter(|&(stage, bit)| controls[stage] >> bit & 1 == 1);
+    if ones.any(|(stage, bit)| !is_used(width, stage, bit)) {
+        3
+    } else {
+        0
+    }
+}
+
+#[test]
+fn every_other_width_is_refusal_1_whatever_the_rest() {
+    for width in other_widths() {
         for word in WORDS {
-            test(mask, word);
-        }
-    }
-}
-
-#[test]
-fn every_other_width_is_refusal_1_whatever_mask_and_word() {
-    for width in (0..=130).chain(HUGE_WIDTHS) {
-        if !WIDTHS.contains(&width) {
-            for_each_mask_and_word(|mask, word| assert_refused(1, width, mask, word));
-        }
-    }
-}
-
-#[test]
-fn accepted_widths_are_refused_by_range_alone() {
-    for width in WIDTHS {
-        for_each_mask_and_word(|mask, word| {
-            let in_range = (mask | word) & !low_ones(width) == 0;
-            for call in CALLS {
-                let expected = if in_range { 0 } else { 2 };
-                assert_eq!(call.check(width, mask, word).refusal, expected);
+            assert_number(&[DECODE], 1, width, (), word);
+            for mask in WORDS {
+                assert_number(&MASK_CALLS, 1, width, mask, word);
             }
-        });
+            for controls in CONTROLS {
+                assert_number(&NETWORKS, 1, width, controls, word);
+            }
+        }
+    }
+}
+
+#[test]
+fn accepted_widths_are_refused_by_range_and_then_by_unused_controls() {
+    for width in WIDTHS {
+        for word in WORDS {
+            assert_number(&[DECODE], above_or(width, word, 0), width, (), word);
+            for mask in WORDS {
+                let number = above_or(width, mask | word, 0);
+                assert_number(&MASK_CALLS, number, width, mask, word);
+            }
+            for controls in CONTROLS {
+                let number = above_or(width, word, unused(width, controls));
+                assert_number(&NETWORKS, number, width, controls, word);
+            }
+        }
     }
 }
 
@@ -86,11 +143,16 @@ fn each_single_bit_above_the_width_is_refusal_2() {
         for p in width..64 {
             let beyond = 1 << p;
             for inside in [0, 1, 0xAD, low_ones(width)] {
-                assert_refused(2, width, inside, beyond);
-                assert_refused(2, width, beyond, inside);
-                assert_refused(2, width, inside, beyond | inside);
-                assert_refused(2, width, beyond | inside, inside);
-                assert_refused(2, width, beyond | inside, beyond | inside);
+                let word = beyond | inside;
+                assert_number(&MASK_CALLS, 2, width, inside, beyond);
+                assert_number(&MASK_CALLS, 2, width, beyond, inside);
+                assert_number(&MASK_CALLS, 2, width, inside, word);
+                assert_number(&MASK_CALLS, 2, width, word, inside);
+                assert_number(&MASK_CALLS, 2, width, word, word);
+                assert_number(&[DECODE], 2, width, (), word);
+                for controls in CONTROLS {
+                    assert_number(&NETWORKS, 2, width, controls, word);
+                }
             }
         }
     }
@@ -100,17 +162,58 @@ fn each_single_bit_above_the_width_is_refusal_2() {
 fn each_single_bit_below_the_width_is_accepted() {
     for width in WIDTHS {
         for p in 0..width {
-            for call in CALLS {
-                assert_eq!(call.check(width, 1 << p, low_ones(width)).refusal, 0);
-                assert_eq!(call.check(width, low_ones(width), 1 << p).refusal, 0);
+            assert_number(&MASK_CALLS, 0, width, 1 << p, low_ones(width));
+            assert_number(&MASK_CALLS, 0, width, low_ones(width), 1 << p);
+            assert_number(&NETWORKS, 0, width, pass_all(width), 1 << p);
+            assert_number(&[DECODE], 0, width, (), 1 << p);
+        }
+    }
+}
+
+#[test]
+fn each_single_control_bit_is_refusal_3_exactly_if_unused() {
+    for width in WIDTHS {
+        for (stage, bit) in control_bits() {
+            let number = if is_used(width, stage, bit) { 0 } else { 3 };
+            for others in [[0; 6], pass_all(width)] {
+                let mut controls = others;
+                controls[stage] |= 1 << bit;
+                assert_number(&NETWORKS, number, width, controls, 0);
+                assert_number(&NETWORKS, number, width, controls, low_ones(width));
+                assert_number(&NETWORKS, 1, width + 1, controls, 0);
             }
         }
     }
 }
 
-/// The table's own examples: "width 12", and "width 8, word 0x100".
+#[test]
+fn each_unused_stage_is_refusal_3_whatever_its_bits() {
+    for width in WIDTHS {
+        for stage in stages(width)..6 {
+            for bits in [1, 0xF, 0x8000, 1 << 31, u32::MAX] {
+                let mut controls = pass_all(width);
+                controls[stage] = bits;
+                assert_number(&NETWORKS, 3, width, controls, 0xAD);
+            }
+        }
+    }
+}
+
+/// The table's own examples: "width 12", "width 8, word 0x100", and "width 8,
+/// column 1 = 0x10".
 #[test]
 fn examples_of_the_table_of_refusals() {
-    assert_refused(1, 12, 0xAD, 0xB6);
-    assert_refused(2, 8, 0xAD, 0x100);
+    assert_number(&MASK_CALLS, 1, 12, 0xAD, 0xB6);
+    assert_number(&MASK_CALLS, 2, 8, 0xAD, 0x100);
+    assert_number(&NETWORKS, 3, 8, [0x10, 0, 0, 0, 0, 0], 0xB6);
+}
+
+/// Each number with every higher one.
+#[test]
+fn the_lowest_number_wins() {
+    let unused = [0x10, 0, 0, 0, 0, 0];
+    assert_number(&NETWORKS, 1, 12, unused, 0x1000);
+    assert_number(&NETWORKS, 1, 12, unused, 0xB6);
+    assert_number(&NETWORKS, 1, 12, [0; 6], 0x1000);
+    assert_number(&NETWORKS, 2, 8, unused, 0x100);
 }

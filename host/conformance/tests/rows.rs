@@ -1,6 +1,6 @@
 //! Paper 01's reel of examples.
 
-use conformance::call::{GATHER, GROUP, SCATTER};
+use conformance::call::{decode, BUTTERFLY, GATHER, GROUP, SCATTER};
 
 #[test]
 fn row_1_gather() {
@@ -15,6 +15,23 @@ fn row_2_scatter() {
 #[test]
 fn row_3_group() {
     assert_eq!(GROUP.result(8, 0xAD, 0xB6), 0x7A);
+}
+
+#[test]
+fn row_4_decode() {
+    assert_eq!(decode(8, 0xAD).butterfly, [0x7, 0x1, 0x5, 0, 0, 0]);
+}
+
+#[test]
+fn row_5_decode_of_no_mark() {
+    let decoded = decode(8, 0);
+    assert_eq!(decoded.butterfly, [0; 6]);
+    assert_eq!(decoded.inverse, [0; 6]);
+}
+
+#[test]
+fn row_6_butterfly_on_zeros() {
+    assert_eq!(BUTTERFLY.result(8, [0; 6], 0x01), 0x80);
 }
 
 /// Demand page: "It takes 12-bit colour out of 16-bit words".

@@ -1,16 +1,7 @@
 //! Gather, scatter and group ("Lines, masks, orders" of paper 01).
 
 use crate::bits::{bits_of, marked, unmarked, word_of};
-use crate::refusal::{has_one_at_or_above, is_width, lowest, ABOVE, NONE, WIDTH};
-
-/// The answer of gather, scatter and group.
-#[derive(Clone, Copy, Debug, PartialEq, Eq)]
-pub struct Gathered {
-    /// The refusal's number, 0 where the call is carried out.
-    pub refusal: u8,
-    /// The result; "the rest of the answer is zeros" where it is refused.
-    pub word: u64,
-}
+use crate::refusal::{has_one_at_or_above, is_width, Answer, ABOVE, WIDTH};
 
 /// "Gather: if the marked lines, from the right, are m0, m1, .., then line i
 /// of the result is line mi of the word. With k marked lines, lines k and up
@@ -18,9 +9,9 @@ pub struct Gathered {
 ///
 /// ```
 /// // Row 1 of paper 01.
-/// assert_eq!(model::gather::gather(8, 0xAD, 0xB6).word, 0x1A);
+/// assert_eq!(model::gather::gather(8, 0xAD, 0xB6).result, 0x1A);
 /// ```
-pub fn gather(width: u32, mask: u64, word: u64) -> Gathered {
+pub fn gather(width: u32, mask: u64, word: u64) -> Answer<u64> {
     answer(width, mask, word, |mask, word| {
         let mut result = vec![false; word.len()];
         for (i, m) in marked(mask).into_iter().enumerate() {
@@ -35,9 +26,9 @@ pub fn gather(width: u32, mask: u64, word: u64) -> Gathered {
 ///
 /// ```
 /// // Row 2 of paper 01.
-/// assert_eq!(model::gather::scatter(8, 0xAD, 0x1A).word, 0xA4);
+/// assert_eq!(model::gather::scatter(8, 0xAD, 0x1A).result, 0xA4);
 /// ```
-pub fn scatter(width: u32, mask: u64, word: u64) -> Gathered {
+pub fn scatter(width: u32, mask: u64, word: u64) -> Answer<u64> {
     answer(width, mask, word, |mask, word| {
         let mut result = vec![false; word.len()];
         for (i, m) in marked(mask).into_iter().enumerate() {
@@ -52,9 +43,9 @@ pub fn scatter(width: u32, mask: u64, word: u64) -> Gathered {
 ///
 /// ```
 /// // Row 3 of paper 01.
-/// assert_eq!(model::gather::group(8, 0xAD, 0xB6).word, 0x7A);
+/// assert_eq!(model::gather::group(8, 0xAD, 0xB6).result, 0x7A);
 /// ```
-pub fn group(width: u32, mask: u64, word: u64) -> Gathered {
+pub fn group(width: u32, mask: u64, word: u64) -> Answer<u64> {
     answer(width, mask, word, |mask, word| {
         let sources = marked(mask).into_iter().chain(unmarked(mask));
         sources.map(|source| word[source]).collect()
@@ -67,22 +58,15 @@ fn answer(
     mask: u64,
     word: u64,
     meaning: impl Fn(&[bool], &[bool]) -> Vec<bool>,
-) -> Gathered {
-    let refusal = refusal(width, mask, word);
-    if refusal != NONE {
-        return Gathered { refusal, word: 0 };
-    }
-    let bits = |word| bits_of(width as usize, word);
-    let word = word_of(&meaning(&bits(mask), &bits(word)));
-    Gathered { refusal, word }
-}
-
-/// Refusals 1 and 2 of the table.
-fn refusal(width: u32, mask: u64, word: u64) -> u8 {
+) -> Answer<u64> {
     let word_beyond = has_one_at_or_above(width, word);
     let mask_beyond = has_one_at_or_above(width, mask);
-    lowest(&[
+    let conditions = [
         (WIDTH, !is_width(width)),
         (ABOVE, word_beyond || mask_beyond),
-    ])
+    ];
+    Answer::of(&conditions, || {
+        let bits = |word| bits_of(width as usize, word);
+        word_of(&meaning(&bits(mask), &bits(word)))
+    })
 }

@@ -6,6 +6,36 @@ pub const NONE: u8 = 0;
 pub const WIDTH: u8 = 1;
 /// "word or mask has a one at line w or above"
 pub const ABOVE: u8 = 2;
+/// "a one in an unused setting bit or column"
+pub const UNUSED: u8 = 3;
+
+/// The answer of a call.
+#[derive(Clone, Copy, Debug, PartialEq, Eq)]
+pub struct Answer<R> {
+    /// The refusal's number, 0 where the call is carried out.
+    pub refusal: u8,
+    /// The rest of the answer.
+    pub result: R,
+}
+
+impl<R: Default> Answer<R> {
+    /// Refuses the call if one of the conditions applies, or else carries it
+    /// out.
+    pub fn of(conditions: &[(u8, bool)], carry_out: impl FnOnce() -> R) -> Self {
+        let refusal = lowest(conditions);
+        if refusal != NONE {
+            return Answer::refused(refusal);
+        }
+        let result = carry_out();
+        Answer { refusal, result }
+    }
+
+    /// "The rest of the answer is zeros"
+    pub fn refused(refusal: u8) -> Self {
+        let result = R::default();
+        Answer { refusal, result }
+    }
+}
 
 /// "The lowest number that applies to any part of the call is returned."
 ///

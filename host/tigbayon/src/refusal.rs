@@ -13,11 +13,13 @@ pub enum Refusal {
     Width = 1,
     /// The word or the mask has a one at bit w or above.
     Above = 2,
+    /// The controls have a one in an unused bit or stage.
+    Unused = 3,
 }
 
 impl Refusal {
     /// Every refusal, by rising number.
-    pub const ALL: [Refusal; 2] = [Refusal::Width, Refusal::Above];
+    pub const ALL: [Refusal; 3] = [Refusal::Width, Refusal::Above, Refusal::Unused];
 
     /// The number, which is part of the interface.
     ///
@@ -32,6 +34,7 @@ impl Refusal {
         match self {
             Refusal::Width => "width not 8, 16, 32, 64",
             Refusal::Above => "word or mask has a one at bit w or above",
+            Refusal::Unused => "a one in an unused control bit or stage",
         }
     }
 

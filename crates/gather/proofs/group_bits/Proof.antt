@@ -2,14 +2,15 @@
 use native.Mathlib.Omega.{arith}
 use borrow.Author.Needs.{needs}
 use Rattle.bits.proofs.Rank.{rank-le}
-use Rattle.gather.proofs.Steps.{group-sum, group-lt, group-all, below-64}
+use Rattle.gather.proofs.Steps.{group-sum, group-all}
+use Rattle.gather.proofs.Theorems.{group-below}
 use Rattle.gather.proofs.group_bits.Statement.{statement}
 use Rattle.gather.proofs.group_bits.Tie as tie
 use Rattle.gather.proofs.group_bits.Reads as reads
 use Rattle.gather.proofs.group_bits.Lts as lts
 
-gather-bits-requires : tie.Need-gather-bits-requires
-gather-bits-requires c κs = search needs
+compress-requires : tie.Need-compress-requires
+compress-requires c κs = search needs
 
 count-requires : tie.Need-count-requires
 count-requires c κs = search needs
@@ -18,11 +19,10 @@ returns : tie.Need-returns
 returns c =
     let b = c .before .before in
     let a = b .before .args in
-    group-all (a .width) (a .mask) (a .word) (search needs) (search needs) (b .gather-bits .ensures) (c .before .count .ensures)
-    (c .if1 .taken)
+    group-all (a .mask) (a .word) (search needs) (b .compress .ensures) (c .before .count .ensures) (c .if1 .taken)
 
-gather-bits-requires-2 : tie.Need-gather-bits-requires-2
-gather-bits-requires-2 c κs = search needs
+compress-requires-2 : tie.Need-compress-requires-2
+compress-requires-2 c κs = search needs
 
 shl-result : tie.Need-shl-result
 shl-result c =
@@ -33,26 +33,23 @@ add-result : tie.Need-add-result
 add-result c =
     let b = c .before .before in
     let a = b .before .before .args in
-    let e = group-sum (a .width) (a .mask) (a .word) (search needs) (search needs)
-    (b .before .gather-bits .ensures) (b .count .ensures) (c .gather-bits2 .ensures)
-    in
-    record { fits = below-64 e (group-lt (a .width) (a .mask) (a .word) (search needs) (search needs)) (search needs) }
+    let e = group-sum (a .mask) (a .word) (search needs) (b .before .compress .ensures) (b .count .ensures) (c .compress2 .ensures) in
+    record { fits = omega (arith, e, group-below 64 (a .mask) (a .word) (search needs)) }
 
 returns-2 : tie.Need-returns-2
 returns-2 c =
     let b = c .before .before in
     let a = b .before .before .args in
-    group-sum (a .width) (a .mask) (a .word) (search needs) (search needs) (b .before .gather-bits .ensures) (b .count .ensures)
-    (c .gather-bits2 .ensures)
+    group-sum (a .mask) (a .word) (search needs) (b .before .compress .ensures) (b .count .ensures) (c .compress2 .ensures)
 
 pub group-bits-spec : {M : Type 1} → statement M
 group-bits-spec =
     tie.close
     (tie.spec
-    gather-bits-requires
+    compress-requires
     count-requires
     returns
-    gather-bits-requires-2
+    compress-requires-2
     shl-result
     add-result
     returns-2)

@@ -1,0 +1,74 @@
+-- `gather::compress` meets its contract: before turn i, the marked bits are i moves down. Assumes nothing.
+use mathlib.Core.Path.{_≡_}
+use Prim.Native.Nat.{_≤_, _<_, _-_}
+use native.Mathlib.Omega.{arith}
+use borrow.Author.Needs.{needs}
+use lib.Bits.{bitAnd, and-le-r}
+use Rattle.gather.proofs.Routes.{Pushed, pushed-none, pushed-next, pushed-all, distance, distance-lt}
+use Rattle.gather.proofs.compress.Statement.{statement}
+use Rattle.gather.proofs.compress.Tie as tie
+use Rattle.gather.proofs.compress.Reads as reads
+use Rattle.gather.proofs.compress.Lts as lts
+use Rattle.gather.proofs.moves.Reads as moves-reads
+
+abbrev Inv-loop : tie.InvT-loop
+Inv-loop mask word words out₀ i₀ out i = (i ≤ 6) × Pushed mask (bitAnd word mask) i out
+
+abbrev μ-loop : tie.MeasureT-loop
+μ-loop mask word words out₀ i₀ out i = 6 - i
+
+moves-requires : tie.Need-moves-requires Inv-loop μ-loop
+moves-requires c κs = search needs
+
+loop-holds : tie.Need-loop-holds Inv-loop μ-loop
+loop-holds c =
+    let a = c .before .args in
+    (search needs, pushed-none (omega (arith, and-le-r (a .word) (a .mask))))
+
+mul-moved : tie.Need-mul-moved Inv-loop μ-loop
+mul-moved c = search needs
+
+array-read-moved : tie.Need-array-read-moved Inv-loop μ-loop
+array-read-moved c = search needs
+
+shl-out : tie.Need-shl-out Inv-loop μ-loop
+shl-out c = search needs
+
+shr-out : tie.Need-shr-out Inv-loop μ-loop
+shr-out c = distance-lt (c .before .loop .i) (search needs)
+
+add-i : tie.Need-add-i Inv-loop μ-loop
+add-i c = search needs
+
+loop-less : tie.Need-loop-less Inv-loop μ-loop
+loop-less c = search needs
+
+loop-again : tie.Need-loop-again Inv-loop μ-loop
+loop-again c =
+    let l = c .before .loop in
+    let h : l .i < 6 = search needs in
+    (search needs, pushed-next (l .inv .1) (c .before .before .moves .ensures .move (l .i) h) (distance (l .i) h))
+
+returns : tie.Need-returns Inv-loop μ-loop
+returns c =
+    let l = c .before .loop in
+    let a = c .before .before .before .args in
+    let e : l .i ≡ 6 = omega arith in
+    pushed-all (a .mask) (a .word) (rw e at (l .inv .1))
+
+pub compress-spec : {M : Type 1} → statement M
+compress-spec =
+    tie.close
+    (tie.spec
+    Inv-loop
+    μ-loop
+    moves-requires
+    loop-holds
+    mul-moved
+    array-read-moved
+    shl-out
+    shr-out
+    add-i
+    loop-less
+    loop-again
+    returns)

@@ -1,0 +1,127 @@
+-- What the calls' answers come to, by the tests that the code makes. Assumes nothing.
+use mathlib.Core.Path.{_≡_, refl, sym, _∙_, ap, ap₂}
+use mathlib.Core.Bool.{Bool, true, false, not, cond, _&&_}
+use mathlib.Core.List.{List, [], _∷_, reverse}
+use Prim.Native.Nat.{ℕ, zero, suc, _+_, _-_, _*_, _/_, _%_, _^_, _<_, _≤_}
+use native.Mathlib.Omega.{arith}
+use native.Mathlib.Nat.{pow-succ', mod-eq-of-lt, one-mul}
+use native.Mathlib.Numerals.{add-one}
+use lib.Dec.{eqb, ltb}
+use lib.ListN.{length, getD, take, drop, replicate, drop-of-length-le}
+use Rattle.network.proofs.Routing.{length-decode}
+use lib.Pow.{pow-mono}
+use lib.Seq.{drop-cons, take-at}
+use borrow.Author.Tests.{eq-eqb, ne-eqb, lt-ltb, le-ltb, ltb-true}
+use Rattle.bits.specs.Refusal.{logOf, accepted, fits, lowest, IsLowest}
+use Rattle.bits.proofs.Refusals.{log-width, lowest-law}
+use Rattle.network.specs.declared.Controls.{Controls}
+use Rattle.network.specs.declared.Carried.{Carried}
+use Rattle.network.specs.declared.Decoded.{Decoded}
+use Rattle.network.specs.Decoder.{decodeOf, decodeInverseOf}
+use Rattle.network.specs.Calls.{usedBits, controlsFit, carryConditions, carryRefusal, carryAnswer, six, controls, decodeConditions, decodeRefusal, decodeAnswer}
+
+-- the control bits in use
+
+module _ (L at : ℕ) where
+  pub used-some : at < L → L ≤ 6 → 1 * 2 ^ (L - 1) % 2 ^ 32 ≡ usedBits L at
+  used-some h l =
+      let e : suc (L - 1) ≡ L = omega arith in
+      let k : L - 1 ≤ 5 = omega arith in
+      let p : 2 ^ L ≡ 2 * 2 ^ (L - 1) = ap (λ (n : ℕ). 2 ^ n) (sym e) ∙ pow-succ' 2 (L - 1) in
+      rw (lt-ltb at L h, one-mul, mod-eq-of-lt {n = 2 ^ (L - 1)} {m = 2 ^ 32} (omega (arith, pow-mono k))) (omega (arith, p))
+
+  pub used-none : L ≤ at → 0 ≡ usedBits L at
+  used-none h = rw (le-ltb at L h)
+
+  fit-step : (cs : List ℕ) → at < length cs
+      → controlsFit L at (drop at cs) ≡ (fits (usedBits L at) (getD cs at 0) && controlsFit L (at + 1) (drop (at + 1) cs))
+  fit-step cs h = rw (add-one at, drop-cons cs at 0)
+
+  -- by the test of one stage
+  pub fit-now : (cs : List ℕ) → at < length cs → {u : ℕ} {b : Bool} → u ≡ usedBits L at → fits u (getD cs at 0) ≡ b
+      → (b && controlsFit L (at + 1) (drop (at + 1) cs)) ≡ controlsFit L at (drop at cs)
+  fit-now cs h {u} {b} e f =
+      sym (fit-step cs h
+      ∙ ap (λ (n : ℕ). fits n (getD cs at 0) && controlsFit L (at + 1) (drop (at + 1) cs)) (sym e)
+      ∙ ap (λ (t : Bool). t && controlsFit L (at + 1) (drop (at + 1) cs)) f)
+
+  pub fit-end : (cs : List ℕ) → length cs ≤ at → controlsFit L at (drop at cs) ≡ true
+  fit-end cs h = rw (drop-of-length-le cs h)
+
+-- a call on a network
+
+abbrev byTests : Bool → Bool → Bool → ℕ
+byTests a f g = lowest ((1, not a) ∷ (2, not f) ∷ (3, not g) ∷ [])
+
+module _ (w : ℕ) (cs : List ℕ) (x : ℕ) where
+  pub carry-refusal-by : {a f g : Bool} → accepted w ≡ a → fits w x ≡ f → controlsFit (logOf w) 0 cs ≡ g → carryRefusal w cs x ≡ byTests a f g
+  unfolding carryRefusal
+  carry-refusal-by {a} {f} {g} p q r =
+      ap (λ (b : Bool). byTests b (fits w x) (controlsFit (logOf w) 0 cs)) p
+      ∙ ap (λ (b : Bool). byTests a b (controlsFit (logOf w) 0 cs)) q
+      ∙ ap (λ (b : Bool). byTests a f b) r
+
+  -- demand 1, of both networks
+  pub carry-refusal-lowest : IsLowest (carryConditions w cs x) (carryRefusal w cs x)
+  unfolding carryRefusal
+  carry-refusal-lowest = lowest-law (carryConditions w cs x) (omega arith)
+
+  -- a call that is carried out is within the limits
+  pub carry-within : carryRefusal w cs x ≡ 0 → (accepted w ≡ true) × (x < 2 ^ w) × (controlsFit (logOf w) 0 cs ≡ true)
+  carry-within e = by-tests (accepted w) (fits w x) (controlsFit (logOf w) 0 cs) refl refl refl (sym (carry-refusal-by refl refl refl) ∙ e)
+    where
+      by-tests : (a f g : Bool) → accepted w ≡ a → fits w x ≡ f → controlsFit (logOf w) 0 cs ≡ g → byTests a f g ≡ 0
+          → (accepted w ≡ true) × (x < 2 ^ w) × (controlsFit (logOf w) 0 cs ≡ true)
+      by-tests true true true p q r z = (p, ltb-true x (2 ^ w) q, r)
+      by-tests true true false p q r z = absurd (omega arith)
+      by-tests true false g p q r z = absurd (omega arith)
+      by-tests false f g p q r z = absurd (omega arith)
+
+  pub carry-limits : {n l : ℕ} → n ≡ carryRefusal w cs x → n ≡ 0 → l ≡ logOf w → (l ≤ 6) × (x < 2 ^ 2 ^ l)
+  carry-limits e z q =
+      let i = carry-within (sym e ∙ z) in
+      let l = log-width w (i .0) in
+      (omega (arith, l .2), rw q (rw (l .0) at (i .1)))
+
+module _ (f : ℕ → List ℕ → ℕ → ℕ) (w : ℕ) (k : Controls) (x : ℕ) {n : ℕ} (e : n ≡ carryRefusal w (k .stages) x) where
+  pub carry-refused : (n ≡ 0 → ⊥) → _≡_ {A = Carried} (record { refusal = n; word = 0 }) (carryAnswer f w k x)
+  unfolding carryAnswer
+  carry-refused z = rw (← e, ne-eqb n 0 z)
+
+  pub carry-done : n ≡ 0 → {l y : ℕ} → l ≡ logOf w → y ≡ f l (k .stages) x
+      → _≡_ {A = Carried} (record { refusal = 0; word = y }) (carryAnswer f w k x)
+  unfolding carryAnswer
+  carry-done z q y = rw (← e, eq-eqb n 0 z, y, q)
+
+-- a call of the decoder
+
+abbrev byMaskTests : Bool → Bool → ℕ
+byMaskTests a f = lowest ((1, not a) ∷ (2, not f) ∷ [])
+
+module _ (w m : ℕ) where
+  pub decode-refusal-by : {a f : Bool} → accepted w ≡ a → fits w m ≡ f → decodeRefusal w m ≡ byMaskTests a f
+  unfolding decodeRefusal
+  decode-refusal-by {a} {f} p q =
+      ap (λ (b : Bool). byMaskTests b (fits w m)) p ∙ ap (λ (b : Bool). byMaskTests a b) q
+
+  -- demand 1, of the decoder
+  pub decode-refusal-lowest : IsLowest (decodeConditions w m) (decodeRefusal w m)
+  unfolding decodeRefusal
+  decode-refusal-lowest = lowest-law (decodeConditions w m) (omega arith)
+
+  module _ {n : ℕ} (e : n ≡ decodeRefusal w m) where
+    pub decode-refused : (n ≡ 0 → ⊥)
+        → _≡_ {A = Decoded} (record { refusal = n; butterfly = controls []; inverse = controls [] }) (decodeAnswer w m)
+    unfolding decodeAnswer
+    decode-refused z = rw (← e, ne-eqb n 0 z)
+
+    pub decode-done : n ≡ 0 → {l : ℕ} {cs ds : List ℕ} → l ≡ logOf w → cs ≡ six (decodeOf l m) → ds ≡ six (reverse (take l cs))
+        → _≡_ {A = Decoded} (record { refusal = 0; butterfly = record { stages = cs }; inverse = record { stages = ds } }) (decodeAnswer w m)
+    unfolding decodeAnswer decodeInverseOf
+    decode-done z {l} q c d =
+        let t : take l (six (decodeOf l m)) ≡ decodeOf l m = take-at (decodeOf l m) (replicate (6 - length (decodeOf l m)) 0) l (length-decode l m) in
+        let inner : _≡_ {A = List ℕ} (six (reverse (take l (six (decodeOf l m))))) (six (reverse (decodeOf l m))) = ap (λ (xs : List ℕ). six (reverse xs)) t in
+        rw (← e, eq-eqb n 0 z)
+        (ap₂ (λ (a b : List ℕ). record { refusal = 0; butterfly = record { stages = a }; inverse = record { stages = b } })
+        (c ∙ ap (λ (k : ℕ). six (decodeOf k m)) q)
+        (d ∙ ap (λ (xs : List ℕ). six (reverse (take l xs))) c ∙ inner ∙ ap (λ (k : ℕ). six (reverse (decodeOf k m))) q))

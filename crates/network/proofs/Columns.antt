@@ -1,0 +1,161 @@
+-- The decoder's code: turned zeros in closed form, and the control bits of a stage block by block. Assumes nothing.
+use mathlib.Core.Path.{_≡_, refl, sym, _∙_, ap}
+use Prim.Native.Nat.{ℕ, zero, suc, _+_, _-_, _*_, _/_, _%_, _^_, _<_, _≤_}
+use native.Mathlib.Omega.{arith}
+use native.Mathlib.Decide.{decLt}
+use native.Mathlib.Nat.{mod-lt, mod-eq-of-lt, div-add-mod', add-mul-div-right, mul-le-mul-left, mul-le-mul-right, pow-succ', one-mul}
+use native.Mathlib.Numerals.{add-one}
+use lib.Arith.{digits-div, digits-mod}
+use lib.ListN.{getD}
+use lib.Pow.{pow-pos, pow-mono, pow-add, pow-lt, shl-exact, ones-lt}
+use Rattle.bits.specs.Bit.{bit, ofBits, rank}
+use Rattle.bits.proofs.Word.{bit-mod-two, bit-ofBits, bit-not, bit-ones, bit-ones-above, ofBits-add, ofBits-lt, ext}
+use Rattle.bits.proofs.Rank.{rank-rest}
+use Rattle.network.specs.Stage.{falling}
+use Rattle.network.specs.Decoder.{turn, turned, controlAt, column, decodeOf}
+use Rattle.network.proofs.Turn.{turned-bit}
+use Rattle.network.proofs.Travel.{length-falling}
+use Rattle.network.proofs.Table.{distanceTable, distance-at}
+use Rattle.network.proofs.Steps.{falling-at}
+use Rattle.network.proofs.Filling.{map-at}
+
+pub shl-one : (k : ℕ) → k < 64 → 1 * 2 ^ k % 2 ^ 64 ≡ 2 ^ k
+shl-one k h = rw one-mul (mod-eq-of-lt (pow-lt h))
+
+pub turned-lt : {d : ℕ} → 0 < d → (c : ℕ) → turned d c < 2 ^ d
+unfolding turned turn
+turned-lt {d} h zero = pow-pos d
+turned-lt {d} h (suc c) =
+    let e : suc (d - 1) ≡ d = omega arith in
+    omega (arith, mod-lt (turned d c) (pow-pos (d - 1)), pow-succ' 2 (d - 1), ap (λ (n : ℕ). 2 ^ n) e)
+
+-- only the steps modulo 2d count
+module _ {d : ℕ} (pos : 0 < d) (c : ℕ) where
+  steps-bit : (t : ℕ) → t < d → bit (turned d c) t ≡ (c % (2 * d) + (d - 1 - t)) / d % 2
+  steps-bit t h =
+      let s : c + (d - 1 - t) ≡ (c % (2 * d) + (d - 1 - t)) + (2 * (c / (2 * d))) * d = omega (arith, div-add-mod' c (2 * d)) in
+      turned-bit d c t h
+      ∙ omega (arith, ap (λ (n : ℕ). n / d) s, add-mul-div-right (c % (2 * d) + (d - 1 - t)) (2 * (c / (2 * d))) pos)
+
+  -- a quotient known by its bounds
+  quotient : (n k : ℕ) → k * d ≤ n → n < k * d + d → n / d ≡ k
+  quotient n k lo hi =
+      let e : n ≡ k * d + (n - k * d) = omega arith in ap (λ (i : ℕ). i / d) e ∙ digits-div k (omega arith)
+
+  -- up to d steps: ones from the right
+  pub turned-few : c % (2 * d) ≤ d → 2 ^ (c % (2 * d)) - 1 ≡ turned d c
+  turned-few h =
+      ext d (omega (arith, ones-lt (c % (2 * d)), pow-mono h)) (turned-lt pos c)
+      (λ t l. same t l (decLt t (c % (2 * d))) ∙ sym (steps-bit t l))
+    where
+      same : (t : ℕ) → t < d → Dec (t < c % (2 * d)) → bit (2 ^ (c % (2 * d)) - 1) t ≡ (c % (2 * d) + (d - 1 - t)) / d % 2
+      same t l (yes k) = bit-ones (c % (2 * d)) t k ∙ omega (arith, quotient (c % (2 * d) + (d - 1 - t)) 1 (omega arith) (omega arith))
+      same t l (no n) =
+          bit-ones-above (c % (2 * d)) t (omega arith)
+          ∙ omega (arith, quotient (c % (2 * d) + (d - 1 - t)) 0 (omega arith) (omega arith))
+
+  -- past d steps: zeros from the right again
+  pub turned-many : d < c % (2 * d) → 2 ^ d - 2 ^ (c % (2 * d) - d) ≡ turned d c
+  turned-many h =
+      let s = c % (2 * d) - d in
+      let k : s ≤ d = omega (arith, mod-lt c {m = 2 * d} (omega arith)) in
+      let e : 2 ^ d - 2 ^ s ≡ (2 ^ d - 1) - (2 ^ s - 1) = omega (arith, pow-pos s) in
+      e ∙ ext d (omega (arith, pow-pos d)) (turned-lt pos c) (λ t l. same t l (decLt t s) ∙ sym (steps-bit t l))
+    where
+      low-lt : 2 ^ (c % (2 * d) - d) - 1 < 2 ^ d
+      low-lt =
+          let k : c % (2 * d) - d ≤ d = omega (arith, mod-lt c {m = 2 * d} (omega arith)) in
+          omega (arith, ones-lt (c % (2 * d) - d), pow-mono k)
+
+      same : (t : ℕ) → t < d → Dec (t < c % (2 * d) - d)
+          → bit ((2 ^ d - 1) - (2 ^ (c % (2 * d) - d) - 1)) t ≡ (c % (2 * d) + (d - 1 - t)) / d % 2
+      same t l (yes k) =
+          bit-not d t low-lt l
+          ∙ omega (
+            arith,
+            bit-ones (c % (2 * d) - d) t k,
+            quotient (c % (2 * d) + (d - 1 - t)) 2 (omega arith) (omega (arith, mod-lt c {m = 2 * d} (omega arith))),
+          )
+      same t l (no n) =
+          bit-not d t low-lt l
+          ∙ omega (
+            arith,
+            bit-ones-above (c % (2 * d) - d) t (omega arith),
+            quotient (c % (2 * d) + (d - 1 - t)) 1 (omega arith) (omega arith),
+          )
+
+-- the control bits of one block more
+
+module _ (d m j : ℕ) (pos : 0 < d) (small : d * (j + 1) ≤ 32) where
+  block-bits : ofBits d (λ t. controlAt d m (d * j + t)) ≡ turned d (rank m (2 * j * d + d))
+  unfolding controlAt
+  block-bits =
+      ext d (ofBits-lt d (λ t. controlAt d m (d * j + t))) (turned-lt pos (rank m (2 * j * d + d)))
+      (λ t h. bit-ofBits d (λ i. controlAt d m (d * j + i)) t h ∙ at t h)
+    where
+      at : (t : ℕ) → t < d → controlAt d m (d * j + t) % 2 ≡ bit (turned d (rank m (2 * j * d + d))) t
+      at t h =
+          let e : d * j + t ≡ j * d + t = omega arith in
+          rw (e, digits-div j h, digits-mod j h) (bit-mod-two (turned d (rank m (2 * j * d + d))) t)
+
+  pub place-lt : 2 * j * d + d < 64
+  place-lt = omega arith
+
+  pub stage-turn : {out k v : ℕ} → out ≡ ofBits (d * j) (controlAt d m) → k ≡ rank (m % (1 * 2 ^ (2 * j * d + d) % 2 ^ 64)) 64 → v ≡ turned d k
+      → out + v * 2 ^ (d * j) % 2 ^ 64 ≡ ofBits (d * (j + 1)) (controlAt d m)
+  stage-turn {out} {k} {v} o r t =
+      let p : 1 * 2 ^ (2 * j * d + d) % 2 ^ 64 ≡ 2 ^ (2 * j * d + d) =
+      shl-one (2 * j * d + d) place-lt
+      in
+      let c : k ≡ rank m (2 * j * d + d) = r ∙ ap (λ (n : ℕ). rank (m % n) 64) p ∙ rank-rest m (2 * j * d + d) (omega (arith, place-lt)) in
+      let w : v ≡ ofBits d (λ i. controlAt d m (d * j + i)) = t ∙ ap (turned d) c ∙ sym block-bits in
+      let b : d + d * j ≤ 64 = omega arith in
+      let q : v * 2 ^ (d * j) % 2 ^ 64 ≡ v * 2 ^ (d * j) = shl-exact {a = v} d (d * j) 64 (omega (arith, w, ofBits-lt d (λ i. controlAt d m (d * j + i)))) b in
+      let s : d * (j + 1) ≡ d * j + d = omega arith in
+      rw (q, s, ofBits-add (d * j) d (controlAt d m), o, w) (omega arith)
+
+  pub stage-fits : ofBits (d * (j + 1)) (controlAt d m) < 2 ^ 64
+  stage-fits = omega (arith, ofBits-lt (d * (j + 1)) (controlAt d m), pow-mono small)
+
+-- what keeps the code's numbers small
+
+pub block-small : (d j n : ℕ) → 0 < d → d * n ≤ 32 → j < n → (d * (j + 1) ≤ 32) × (j < 32) × (d ≤ 32)
+block-small d j n pos h l =
+    let a : d * (j + 1) ≤ d * n = mul-le-mul-left d (omega arith) in
+    let b : 1 * j ≤ d * j = mul-le-mul-right j pos in
+    (omega arith, omega arith, omega arith)
+
+-- the stages of the decoder: distance and number of blocks of stage number i, by the table
+
+module _ (L i : ℕ) (h : i < L) (l : L ≤ 6) where
+  abbrev distance : ℕ
+  distance = getD distanceTable (6 - L + i) 0
+
+  abbrev blocks : ℕ
+  blocks = 1 * 2 ^ i % 2 ^ 64
+
+  distance-is : distance ≡ getD (falling L) i 0
+  distance-is =
+      let e : 5 - (6 - L + i) ≡ L - 1 - i = omega arith in
+      distance-at (6 - L + i) (omega arith) ∙ ap (λ (n : ℕ). 2 ^ n) e ∙ sym (falling-at L i h)
+
+  switches : distance * blocks ≡ 2 ^ L / 2
+  switches =
+      let e : L - 1 - i + i ≡ L - 1 = omega arith in
+      let s : suc (L - 1) ≡ L = omega arith in
+      rw (distance-is, falling-at L i h, shl-one i (omega arith), ← pow-add 2 (L - 1 - i) i, e)
+      (omega (arith, pow-succ' 2 (L - 1), ap (λ (n : ℕ). 2 ^ n) s))
+
+  pub stage-size : (0 < distance) × (distance * blocks ≤ 32)
+  stage-size = (rw (distance-is, falling-at L i h) (pow-pos (L - 1 - i)), omega (arith, switches, pow-mono l))
+
+  pub decoded-at : (m : ℕ) {v : ℕ} → v ≡ ofBits (distance * blocks) (controlAt distance m) → v ≡ getD (decodeOf L m) i 0
+  unfolding decodeOf column
+  decoded-at m e =
+      e
+      ∙ ap (λ (n : ℕ). ofBits n (controlAt distance m)) switches
+      ∙ ap (λ (d : ℕ). ofBits (2 ^ L / 2) (controlAt d m)) distance-is
+      ∙ sym (map-at (column (2 ^ L) m) (falling L) i (omega (arith, length-falling L)))
+
+  pub decoded-lt : (m : ℕ) → ofBits (distance * blocks) (controlAt distance m) < 2 ^ 32
+  decoded-lt m = omega (arith, ofBits-lt (distance * blocks) (controlAt distance m), pow-mono (stage-size .1))

@@ -1,0 +1,60 @@
+-- Arrays of six stages, filled from the front. Assumes nothing.
+use mathlib.Core.Path.{_≡_, refl, sym, _∙_, ap}
+use mathlib.Core.List.{List, [], _∷_, _++_, append-assoc, append-nil, map, reverse, reverse-cons}
+use Prim.Native.Nat.{ℕ, zero, suc, _+_, _-_, _<_, _≤_}
+use native.Mathlib.Omega.{arith}
+use native.Mathlib.Decide.{decLt}
+use native.Mathlib.Nat.{not-suc-le-zero}
+use native.Mathlib.Numerals.{add-one}
+use lib.ListN.{length, getD, take, set, replicate, length-reverse, length-take, List·getD-append}
+use lib.Seq.{take-suc, take-length, take-all, set-at, getD-at, getD-take, length-take-le}
+use Rattle.network.specs.Calls.{six}
+
+-- filled with the first i of the list cs, and a behind them
+abbrev pub filled : ℕ → ℕ → List ℕ → List ℕ
+filled a i cs = take i cs ++ replicate (6 - i) a
+
+pub fill-turn : (a : ℕ) (cs : List ℕ) (i : ℕ) {out : List ℕ} {v : ℕ} → i < 6 → i < length cs → out ≡ filled a i cs → v ≡ getD cs i 0
+    → set out i v ≡ filled a (i + 1) cs
+fill-turn a cs i {out} {v} h l e f =
+    let n : 6 - i ≡ suc (6 - suc i) = omega arith in
+    ap (λ (o : List ℕ). set o i v) (e ∙ ap (λ (k : ℕ). take i cs ++ replicate k a) n)
+    ∙ set-at (take i cs) a (replicate (6 - suc i) a) v i (length-take-le i cs (omega arith))
+    ∙ rw (add-one i, take-suc cs i 0, ← f, append-assoc)
+
+pub fill-end : (cs : List ℕ) (i : ℕ) → i ≡ length cs → filled 0 i cs ≡ six cs
+fill-end cs i e = rw (e, take-length)
+
+pub fill-whole : (a : ℕ) (cs : List ℕ) (i : ℕ) → i ≡ 6 → length cs ≡ 6 → filled a i cs ≡ cs
+fill-whole a cs i e l = rw (e, take-all 6 cs (omega arith)) (append-nil cs)
+
+pub map-at : (f : ℕ → ℕ) (xs : List ℕ) (i : ℕ) → i < length xs → getD (map f xs) i 0 ≡ f (getD xs i 0)
+map-at f [] i h = absurd (not-suc-le-zero h)
+map-at f (x ∷ xs) zero h = refl
+map-at f (x ∷ xs) (suc i) h = map-at f xs i (omega arith)
+
+pub reverse-at : (xs : List ℕ) (i : ℕ) → i < length xs → getD (reverse xs) i 0 ≡ getD xs (length xs - 1 - i) 0
+reverse-at [] i h = absurd (not-suc-le-zero h)
+reverse-at (x ∷ xs) i h = ap (λ (l : List ℕ). getD l i 0) (reverse-cons x xs) ∙ by-cases (decLt i (length xs)) (reverse-at xs i)
+  where
+    by-cases : Dec (i < length xs) → (i < length xs → getD (reverse xs) i 0 ≡ getD xs (length xs - 1 - i) 0)
+        → getD (reverse xs ++ (x ∷ [])) i 0 ≡ getD (x ∷ xs) (suc (length xs) - 1 - i) 0
+    by-cases (yes l) ih =
+        let e : suc (length xs - 1 - i) ≡ suc (length xs) - 1 - i = omega arith in
+        List·getD-append (reverse xs) (x ∷ []) 0 i (omega (arith, length-reverse xs))
+        ∙ ih l ∙ ap (λ (n : ℕ). getD (x ∷ xs) n 0) e
+    by-cases (no n) ih =
+        let e : 0 ≡ suc (length xs) - 1 - i = omega arith in
+        getD-at (reverse xs) x [] 0 i (length-reverse xs ∙ omega arith) ∙ ap (λ (k : ℕ). getD (x ∷ xs) k 0) e
+
+-- the first L of a list, reversed
+module _ (xs : List ℕ) (L : ℕ) (h : L ≤ length xs) where
+  pub length-reversed : length (reverse (take L xs)) ≡ L
+  length-reversed = length-reverse (take L xs) ∙ length-take-le L xs h
+
+  pub reversed-at : (i : ℕ) → i < L → getD xs (L - 1 - i) 0 ≡ getD (reverse (take L xs)) i 0
+  reversed-at i l =
+      let n = length-take-le L xs h in
+      sym (reverse-at (take L xs) i (omega (arith, n))
+      ∙ ap (λ (k : ℕ). getD (take L xs) (k - 1 - i) 0) n
+      ∙ getD-take L xs (L - 1 - i) 0 (omega arith))

@@ -1,0 +1,14 @@
+pub mod Index
+pub mod Turn
+pub mod Travel
+pub mod Decoding
+pub mod Routing
+pub mod Words
+pub mod Table
+pub mod Steps
+pub mod Calls
+pub mod Columns
+pub mod Filling
+pub mod CallRouting
+pub mod Six
+pub mod SixSteps

@@ -1,0 +1,65 @@
+-- Mask routing, over every exponent: the networks undo each other, and on decoded controls they are scatter and gather. Assumes nothing.
+use mathlib.Core.Path.{_≡_, sym, _∙_, ap}
+use mathlib.Core.List.{List, reverse}
+use Prim.Native.Nat.{ℕ, _/_, _^_, _<_}
+use native.Mathlib.Omega.{arith}
+use lib.Bits.{bitAnd, and-le-r}
+use lib.ListN.{length, length-map}
+use Rattle.bits.specs.Bit.{bit}
+use Rattle.bits.proofs.Word.{bit-and, ofBits-lt, ext}
+use Rattle.gather.specs.Gather.{gatherOf, scatterOf}
+use Rattle.gather.proofs.Steps.{gather-lt, scatter-lt}
+use Rattle.gather.proofs.Theorems.{bit-scatter}
+use Rattle.network.specs.Stage.{source, stage, falling, rising, butterflyOf, inverseOf}
+use Rattle.network.specs.Decoder.{column, controlAt, decodeOf, decodeInverseOf}
+use Rattle.network.proofs.Travel.{Fits, source-below, bit-stage, travel-lt, travel-back, falling-fit, rising-fit, reverse-falling, reverse-rising, length-falling, length-rising}
+use Rattle.network.proofs.Decoding.{routed-masked, routed-gather}
+pub use Rattle.network.proofs.Turn.{turned-bit}
+pub use Rattle.network.proofs.Travel.{stage-lt, stage-stage}
+
+pub stage-bit : {w d : ℕ} → Fits w d → (c x p : ℕ) → p < w → (source d c p < w) × (bit (stage w d c x) p ≡ bit x (source d c p))
+stage-bit {w} {d} f c x p h = (source-below f c p h, bit-stage w d c x p h)
+
+pub butterfly-lt : (L : ℕ) (cs : List ℕ) {x : ℕ} → x < 2 ^ 2 ^ L → butterflyOf L cs x < 2 ^ 2 ^ L
+unfolding butterflyOf
+butterfly-lt L cs h = travel-lt (2 ^ L) (falling L) cs h
+
+pub inverse-lt : (L : ℕ) (cs : List ℕ) {x : ℕ} → x < 2 ^ 2 ^ L → inverseOf L cs x < 2 ^ 2 ^ L
+unfolding inverseOf
+inverse-lt L cs h = travel-lt (2 ^ L) (rising L) cs h
+
+-- each network on reversed columns undoes the other, for any controls
+
+pub undo : (L : ℕ) (cs : List ℕ) → length cs ≡ L → (x : ℕ) → x < 2 ^ 2 ^ L → inverseOf L (reverse cs) (butterflyOf L cs x) ≡ x
+unfolding butterflyOf inverseOf
+undo L cs e x h =
+    rw (← reverse-falling L) (travel-back (2 ^ L) (falling L) cs (e ∙ sym (length-falling L)) (falling-fit L (omega arith)) h)
+
+pub undo-inverse : (L : ℕ) (cs : List ℕ) → length cs ≡ L → (x : ℕ) → x < 2 ^ 2 ^ L → butterflyOf L (reverse cs) (inverseOf L cs x) ≡ x
+unfolding butterflyOf inverseOf
+undo-inverse L cs e x h =
+    rw (← reverse-rising L) (travel-back (2 ^ L) (rising L) cs (e ∙ sym (length-rising L)) (rising-fit L (omega arith)) h)
+
+-- the decoder answers one column for each stage, in the bits that a column uses
+
+pub column-lt : (w m d : ℕ) → column w m d < 2 ^ (w / 2)
+unfolding column
+column-lt w m d = ofBits-lt (w / 2) (controlAt d m)
+
+pub length-decode : (L m : ℕ) → length (decodeOf L m) ≡ L
+unfolding decodeOf
+length-decode L m = length-map (falling L) (column (2 ^ L) m) ∙ length-falling L
+
+-- through the butterfly, then masked, is scatter; masked, then through the inverse, is gather
+
+pub mask-routing-scatter : (L m x : ℕ) → m < 2 ^ 2 ^ L → bitAnd (butterflyOf L (decodeOf L m) x) m ≡ scatterOf (2 ^ L) m x
+mask-routing-scatter L m x hm =
+    let y = butterflyOf L (decodeOf L m) x in
+    ext (2 ^ L) (omega (arith, and-le-r y m)) (scatter-lt m x (2 ^ L))
+    (λ p h. bit-and y m p ∙ routed-masked L m x p h ∙ sym (bit-scatter (2 ^ L) m x p h))
+
+pub mask-routing-gather : (L m x : ℕ) → m < 2 ^ 2 ^ L → inverseOf L (decodeInverseOf L m) (bitAnd x m) ≡ gatherOf (2 ^ L) m x
+unfolding decodeInverseOf
+mask-routing-gather L m x hm =
+    ap (inverseOf L (reverse (decodeOf L m))) (sym (routed-gather L m x hm))
+    ∙ undo L (decodeOf L m) (length-decode L m) (gatherOf (2 ^ L) m x) (gather-lt m x (2 ^ L))

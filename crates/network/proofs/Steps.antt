@@ -1,0 +1,50 @@
+-- What the code's steps come to, by the table: one turn of the spreading, a stage, the place of a stage in the table, one stage more of a network.
+-- Assumes nothing.
+use mathlib.Core.Path.{_≡_, refl, sym, _∙_, ap}
+use mathlib.Core.Bool.{Bool, true, false}
+use mathlib.Core.List.{List, [], _∷_, _++_}
+use Prim.Native.Nat.{ℕ, zero, suc, _+_, _-_, _*_, _/_, _%_, _^_, _<_, _≤_}
+use native.Mathlib.Omega.{arith}
+use native.Mathlib.Decide.{decLt}
+use native.Mathlib.Nat.{not-suc-le-zero, pow-succ'}
+use lib.Bits.{bitAnd, bitOr, bitXor}
+use lib.ListN.{length, getD, drop, drop-of-length-le, List·getD-append}
+use native.Mathlib.Numerals.{add-one}
+use lib.Pow.{pow-mono, pow-pos}
+use lib.Seq.{drop-cons, getD-at}
+use Rattle.network.specs.Stage.{stage, travel, falling, rising}
+use Rattle.network.specs.Word.{pairs, spreadOf}
+use Rattle.network.proofs.Travel.{Fits, AllFit, fit-at, falling-fit, rising-fit, length-falling, length-rising, stage-lt, stage-wider}
+use Rattle.network.proofs.Words.{spread-step}
+use Rattle.network.proofs.Table.{distanceTable, pairTable, distance-at, pair-at}
+
+pub distance-lt : (k : ℕ) → k < 6 → getD distanceTable k 0 < 64
+distance-lt k h = let l : 5 - k ≤ 5 = omega arith in omega (arith, distance-at k h, pow-mono l)
+
+pub spread-turn : (at c : ℕ) {bits : ℕ} → at < 5 → bits ≡ spreadOf (2 ^ (5 - at)) c
+    → bitAnd (bitOr bits (bits * 2 ^ getD distanceTable (at + 1) 0 % 2 ^ 64)) (getD pairTable (at + 1) 0) ≡ spreadOf (2 ^ (5 - (at + 1))) c
+spread-turn at c h e =
+    let k : suc (5 - (at + 1)) ≡ 5 - at = omega arith in
+    let w : 2 ^ (5 - at) ≡ 2 * 2 ^ (5 - (at + 1)) = ap (λ (n : ℕ). 2 ^ n) (sym k) ∙ pow-succ' 2 (5 - (at + 1)) in
+    rw (e, distance-at (at + 1) (omega arith), pair-at (at + 1) (omega arith), w)
+    (spread-step (2 ^ (5 - (at + 1))) c (pow-pos (5 - (at + 1))))
+
+-- the places of the stages in the table
+
+pub rising-at : (L i : ℕ) → i < L → getD (rising L) i 0 ≡ 2 ^ i
+unfolding rising
+rising-at zero i h = absurd (not-suc-le-zero h)
+rising-at (suc L) i h = by-cases (decLt i L) (rising-at L i)
+  where
+    by-cases : Dec (i < L) → (i < L → getD (rising L) i 0 ≡ 2 ^ i) → getD (rising L ++ (2 ^ L ∷ [])) i 0 ≡ 2 ^ i
+    by-cases (yes l) ih = List·getD-append (rising L) (2 ^ L ∷ []) 0 i (omega (arith, length-rising L)) ∙ ih l
+    by-cases (no n) ih =
+        let e : i ≡ L = omega arith in
+        rw e (getD-at (rising L) (2 ^ L) [] 0 L (length-rising L))
+
+pub falling-at : (L i : ℕ) → i < L → getD (falling L) i 0 ≡ 2 ^ (L - 1 - i)
+unfolding falling
+falling-at zero i h = absurd (not-suc-le-zero h)
+falling-at (suc L) zero h = let e : L ≡ suc L - 1 - 0 = omega arith in ap (λ (n : ℕ). 2 ^ n) e
+falling-at (suc L) (suc i) h =
+    let e : L - 1 - i ≡ suc L - 1 - suc i = omega arith in falling-at L i (omega arith) ∙ ap (λ (n : ℕ). 2 ^ n) e

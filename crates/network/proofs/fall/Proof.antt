@@ -1,0 +1,66 @@
+-- `network::fall` meets its contract. Assumes nothing.
+use mathlib.Core.Path.{_≡_, refl, sym, _∙_, ap}
+use Prim.Native.Nat.{ℕ, _+_, _-_, _^_, _≤_, _<_}
+use native.Mathlib.Omega.{arith}
+use lib.ListN.{drop}
+use Rattle.network.specs.Stage.{falling}
+use Rattle.network.specs.Word.{exchangesOf}
+use Rattle.network.proofs.Travel.{length-falling}
+use Rattle.network.proofs.SixSteps.{fall-turn, exchanges-end}
+use borrow.Author.Needs.{needs}
+use Rattle.network.proofs.fall.Statement.{statement}
+use Rattle.network.proofs.fall.Tie as tie
+use Rattle.network.proofs.fall.Reads as reads
+use Rattle.network.proofs.fall.Lts as lts
+use Rattle.network.proofs.exchange.Reads as exchange-reads
+
+abbrev Inv-loop : tie.InvT-loop
+Inv-loop word words carried₀ index₀ carried index = (index ≤ 6) × (exchangesOf (drop index (falling 6)) (drop index words) carried ≡ exchangesOf (falling 6) words word)
+
+abbrev μ-loop : tie.MeasureT-loop
+μ-loop word words carried₀ index₀ carried index = 6 - index
+
+loop-holds : tie.Need-loop-holds Inv-loop μ-loop
+loop-holds c = (search needs, refl)
+
+mul-exchange : tie.Need-mul-exchange Inv-loop μ-loop
+mul-exchange c = search needs
+
+array-read-exchange : tie.Need-array-read-exchange Inv-loop μ-loop
+array-read-exchange c = search needs
+
+exchange-requires : tie.Need-exchange-requires Inv-loop μ-loop
+exchange-requires c κs = search needs
+
+add-index : tie.Need-add-index Inv-loop μ-loop
+add-index c = search needs
+
+loop-less : tie.Need-loop-less Inv-loop μ-loop
+loop-less c = search needs
+
+loop-again : tie.Need-loop-again Inv-loop μ-loop
+loop-again c =
+    let l = c .before .before .loop in
+    let a = c .before .before .before .args in
+    (search needs, fall-turn (a .t1) (search needs) (l .index) (l .carried) (search needs) (c .exchange .ensures) ∙ l .inv .1)
+
+returns : tie.Need-returns Inv-loop μ-loop
+returns c =
+    let l = c .before .loop in
+    let a = c .before .before .args in
+    sym (exchanges-end (falling 6) (drop (l .index) (a .t1)) (l .index) (l .carried) (omega (arith, length-falling 6))) ∙ l .inv .1
+
+pub fall-spec : {M : Type 1} → statement M
+fall-spec =
+    tie.close
+    (tie.spec
+    Inv-loop
+    μ-loop
+    loop-holds
+    mul-exchange
+    array-read-exchange
+    exchange-requires
+    add-index
+    loop-less
+    loop-again
+    returns)

@@ -1,0 +1,67 @@
+-- `network::rise` meets its contract. Assumes nothing.
+use mathlib.Core.Path.{_≡_, refl, sym, _∙_, ap}
+use Prim.Native.Nat.{ℕ, _+_, _-_, _^_, _≤_, _<_}
+use native.Mathlib.Omega.{arith}
+use mathlib.Core.List.{reverse}
+use lib.ListN.{drop}
+use Rattle.network.specs.Stage.{rising}
+use Rattle.network.specs.Word.{exchangesOf}
+use Rattle.network.proofs.Travel.{length-rising}
+use Rattle.network.proofs.SixSteps.{rise-turn, exchanges-end}
+use borrow.Author.Needs.{needs}
+use Rattle.network.proofs.rise.Statement.{statement}
+use Rattle.network.proofs.rise.Tie as tie
+use Rattle.network.proofs.rise.Reads as reads
+use Rattle.network.proofs.rise.Lts as lts
+use Rattle.network.proofs.exchange.Reads as exchange-reads
+
+abbrev Inv-loop : tie.InvT-loop
+Inv-loop word words carried₀ index₀ carried index = (index ≤ 6) × (exchangesOf (drop (6 - index) (rising 6)) (drop (6 - index) (reverse words)) carried ≡ exchangesOf (rising 6) (reverse words) word)
+
+abbrev μ-loop : tie.MeasureT-loop
+μ-loop word words carried₀ index₀ carried index = index
+
+loop-holds : tie.Need-loop-holds Inv-loop μ-loop
+loop-holds c = (search needs, refl)
+
+sub-index : tie.Need-sub-index Inv-loop μ-loop
+sub-index c = search needs
+
+mul-exchange : tie.Need-mul-exchange Inv-loop μ-loop
+mul-exchange c = search needs
+
+array-read-exchange : tie.Need-array-read-exchange Inv-loop μ-loop
+array-read-exchange c = search needs
+
+exchange-requires : tie.Need-exchange-requires Inv-loop μ-loop
+exchange-requires c κs = search needs
+
+loop-less : tie.Need-loop-less Inv-loop μ-loop
+loop-less c = search needs
+
+loop-again : tie.Need-loop-again Inv-loop μ-loop
+loop-again c =
+    let l = c .before .before .loop in
+    let a = c .before .before .before .args in
+    (search needs, rise-turn (a .t1) (search needs) (l .index) (l .carried) (search needs) (search needs) (c .exchange .ensures) ∙ l .inv .1)
+
+returns : tie.Need-returns Inv-loop μ-loop
+returns c =
+    let l = c .before .loop in
+    let a = c .before .before .args in
+    sym (exchanges-end (rising 6) (drop (6 - l .index) (reverse (a .t1))) (6 - l .index) (l .carried) (omega (arith, length-rising 6))) ∙ l .inv .1
+
+pub rise-spec : {M : Type 1} → statement M
+rise-spec =
+    tie.close
+    (tie.spec
+    Inv-loop
+    μ-loop
+    loop-holds
+    sub-index
+    mul-exchange
+    array-read-exchange
+    exchange-requires
+    loop-less
+    loop-again
+    returns)

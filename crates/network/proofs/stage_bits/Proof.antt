@@ -1,0 +1,136 @@
+-- `network::stage_bits` meets its contract. Assumes nothing.
+use mathlib.Core.Path.{_≡_, refl, sym, _∙_, ap}
+use Prim.Native.Nat.{ℕ, _+_, _-_, _*_, _<_, _≤_}
+use native.Mathlib.Omega.{arith}
+use Rattle.bits.specs.Bit.{ofBits}
+use Rattle.network.specs.Decoder.{controlAt}
+use Rattle.network.proofs.Columns.{shl-one, block-small, stage-turn, stage-fits}
+use lib.Pow.{pow-pos}
+use borrow.Author.Needs.{needs}
+use Rattle.network.proofs.stage_bits.Statement.{statement}
+use Rattle.network.proofs.stage_bits.Tie as tie
+use Rattle.network.proofs.stage_bits.Reads as reads
+use Rattle.network.proofs.stage_bits.Lts as lts
+use Rattle.bits.proofs.count.Reads as count-reads
+use Rattle.network.proofs.turned_bits.Reads as turned-bits-reads
+
+abbrev Inv-loop : tie.InvT-loop
+Inv-loop distance blocks mask out₀ block₀ out block = (block ≤ blocks) × (out ≡ ofBits (distance * block) (controlAt distance mask))
+
+abbrev μ-loop : tie.MeasureT-loop
+μ-loop distance blocks mask out₀ block₀ out block = blocks - block
+
+loop-holds : tie.Need-loop-holds Inv-loop μ-loop
+unfolding ofBits
+loop-holds c =
+    let e : 0 ≡ c .args .distance * 0 = omega arith in
+    (search needs, ap (λ (n : ℕ). ofBits n (controlAt (c .args .distance) (c .args .mask))) e)
+
+mul-below : tie.Need-mul-below Inv-loop μ-loop
+mul-below c =
+    let l = c .before .loop in
+    let a = c .before .before .args in
+    let z = block-small (a .distance) (l .block) (a .blocks) (search needs) (search needs) (search needs) in
+    omega (arith, z)
+
+mul-below-2 : tie.Need-mul-below-2 Inv-loop μ-loop
+mul-below-2 c =
+    let l = c .before .loop in
+    let a = c .before .before .args in
+    let z = block-small (a .distance) (l .block) (a .blocks) (search needs) (search needs) (search needs) in
+    omega (arith, z)
+
+add-below : tie.Need-add-below Inv-loop μ-loop
+add-below c =
+    let l = c .before .loop in
+    let a = c .before .before .args in
+    let z = block-small (a .distance) (l .block) (a .blocks) (search needs) (search needs) (search needs) in
+    omega (arith, z)
+
+shl-below : tie.Need-shl-below Inv-loop μ-loop
+shl-below c =
+    let l = c .before .loop in
+    let a = c .before .before .args in
+    let z = block-small (a .distance) (l .block) (a .blocks) (search needs) (search needs) (search needs) in
+    omega (arith, z)
+
+rem-below : tie.Need-rem-below Inv-loop μ-loop
+rem-below c =
+    let l = c .before .loop in
+    let a = c .before .before .args in
+    let z = block-small (a .distance) (l .block) (a .blocks) (search needs) (search needs) (search needs) in
+    let p : 2 * l .block * a .distance + a .distance < 64 = omega (arith, z) in
+    rw (shl-one (2 * l .block * a .distance + a .distance) p) (pow-pos (2 * l .block * a .distance + a .distance))
+
+count-requires : tie.Need-count-requires Inv-loop μ-loop
+count-requires c κs = search needs
+
+turned-bits-requires : tie.Need-turned-bits-requires Inv-loop μ-loop
+turned-bits-requires c κs =
+    let l = c .before .before .loop in
+    let a = c .before .before .before .args in
+    let z = block-small (a .distance) (l .block) (a .blocks) (search needs) (search needs) (search needs) in
+    omega (arith, z)
+
+mul-out : tie.Need-mul-out Inv-loop μ-loop
+mul-out c =
+    let l = c .before .before .before .loop in
+    let a = c .before .before .before .before .args in
+    let z = block-small (a .distance) (l .block) (a .blocks) (search needs) (search needs) (search needs) in
+    omega (arith, z)
+
+shl-out : tie.Need-shl-out Inv-loop μ-loop
+shl-out c =
+    let l = c .before .before .before .loop in
+    let a = c .before .before .before .before .args in
+    let z = block-small (a .distance) (l .block) (a .blocks) (search needs) (search needs) (search needs) in
+    omega (arith, z)
+
+add-out : tie.Need-add-out Inv-loop μ-loop
+add-out c =
+    let l = c .before .before .before .loop in
+    let a = c .before .before .before .before .args in
+    let z = block-small (a .distance) (l .block) (a .blocks) (search needs) (search needs) (search needs) in
+    let e = stage-turn (a .distance) (a .mask) (l .block) (search needs) (z .0) (l .inv .1) (c .before .count .ensures) (c .turned-bits .ensures) in
+    record { fits = omega (arith, e, stage-fits (a .distance) (a .mask) (l .block) (search needs) (z .0)) }
+
+add-block : tie.Need-add-block Inv-loop μ-loop
+add-block c = search needs
+
+loop-less : tie.Need-loop-less Inv-loop μ-loop
+loop-less c = search needs
+
+loop-again : tie.Need-loop-again Inv-loop μ-loop
+loop-again c =
+    let l = c .before .before .before .loop in
+    let a = c .before .before .before .before .args in
+    let z = block-small (a .distance) (l .block) (a .blocks) (search needs) (search needs) (search needs) in
+    (search needs, stage-turn (a .distance) (a .mask) (l .block) (search needs) (z .0) (l .inv .1) (c .before .count .ensures) (c .turned-bits .ensures))
+
+returns : tie.Need-returns Inv-loop μ-loop
+returns c =
+    let a = c .before .before .args in
+    let e : c .before .loop .block ≡ a .blocks = omega arith in
+    c .before .loop .inv .1 ∙ ap (λ (n : ℕ). ofBits (a .distance * n) (controlAt (a .distance) (a .mask))) e
+
+pub stage-bits-spec : {M : Type 1} → statement M
+stage-bits-spec =
+    tie.close
+    (tie.spec
+    Inv-loop
+    μ-loop
+    loop-holds
+    mul-below
+    mul-below-2
+    add-below
+    shl-below
+    rem-below
+    count-requires
+    turned-bits-requires
+    mul-out
+    shl-out
+    add-out
+    add-block
+    loop-less
+    loop-again
+    returns)

@@ -1,0 +1,4 @@
+pub mod Stage
+pub mod Decoder
+pub mod Calls
+pub mod Word

@@ -1,0 +1,319 @@
+// Stages, both networks and the decoder (paper 01, 'Columns').
+ghost use mathlib.Core.Path.{_≡_};
+ghost use Prim.Native.Nat.{_+_, _-_, _*_, _^_, _≤_, _<_};
+ghost use mathlib.Core.Bool.{cond};
+ghost use mathlib.Core.List.{reverse};
+ghost use lib.ListN.{take};
+ghost use Rattle.bits.specs.Bit.{ofBits};
+ghost use Rattle.network.specs.Stage.{falling, rising, butterflyOf, inverseOf};
+ghost use Rattle.network.specs.Word.{spreadOf, swapsOf, swapsAt, exchangeOf, exchangesOf, byIndex, travelOf};
+ghost use Rattle.network.specs.Decoder.{turned, controlAt, decodeOf};
+ghost use Rattle.network.specs.Calls.{usedBits, controlsFit, carryRefusal, carryAnswer, six, decodeRefusal, decodeAnswer};
+
+// The control bits of one network: six stages in the direction of travel (paper 01: settings). One passes, zero swaps.
+#[repr(C)]
+pub struct Controls {
+    pub stages: [u32; 6],
+}
+
+// What a network answers: 0 and the word, or the number of the refusal and a zero.
+#[repr(C)]
+pub struct Carried {
+    pub refusal: u8,
+    pub word: u64,
+}
+
+// What the decoder answers: 0 and the controls of both networks, or the number of the refusal and zeros.
+#[repr(C)]
+pub struct Decoded {
+    pub refusal: u8,
+    pub butterfly: Controls,
+    pub inverse: Controls,
+}
+
+// The distances of the stages at width 64, and for each the word that marks the lower place of every pair.
+const DISTANCES: [u64; 6] = [32, 16, 8, 4, 2, 1];
+
+const PAIRS: [u64; 6] = [
+    0x00000000FFFFFFFF,
+    0x0000FFFF0000FFFF,
+    0x00FF00FF00FF00FF,
+    0x0F0F0F0F0F0F0F0F,
+    0x3333333333333333,
+    0x5555555555555555,
+];
+
+// internal: a stage of the table. The control bits of a column, each brought to the lower place of its switch: at each stage down the table
+// the two halves of every block move apart.
+fn spread(index: usize, column: u32) -> u64
+    requires { ⌜ index < 6 ⌝ }
+    ensures { λ r. ⌜ r ≡ spreadOf (2 ^ (5 - index)) column ⌝ }
+{
+    let mut bits = column as u64;
+    let mut at: usize = 0;
+    while at < index {
+        at += 1;
+        bits = (bits | (bits << DISTANCES[at])) & PAIRS[at];
+    }
+    bits
+}
+
+// internal: a stage of the table. The lower places of the pairs that swap.
+fn swaps(index: usize, column: u32) -> u64
+    requires { ⌜ index < 6 ⌝ }
+    ensures { λ r. ⌜ r ≡ swapsOf (2 ^ (5 - index)) column ⌝ }
+{
+    PAIRS[index] & !spread(index, column)
+}
+
+// internal: a stage of the table. The pairs marked in `swaps` are exchanged, all at once.
+fn exchange(index: usize, swaps: u64, word: u64) -> u64
+    requires { ⌜ index < 6 ⌝ }
+    ensures { λ r. ⌜ r ≡ exchangeOf (2 ^ (5 - index)) swaps word ⌝ }
+{
+    let distance = DISTANCES[index];
+    let differ = (word ^ (word >> distance)) & swaps;
+    word ^ differ ^ (differ << distance)
+}
+
+// internal: a logarithm of at most 6. The stages in use of the inverse (rising) or of the butterfly by their index in the table.
+fn by_index(rising: bool, log: usize, stages: [u32; 6]) -> [u32; 6]
+    requires { ⌜ log ≤ 6 ⌝ }
+    ensures { λ r. ⌜ r ≡ byIndex rising log stages ⌝ }
+{
+    let mut columns = [0xFFFFFFFFu32; 6];
+    let mut index = 6 - log;
+    while index < 6 {
+        columns[index] = stages[stage_at(rising, log, index)];
+        index += 1;
+    }
+    columns
+}
+
+// internal: a stage in use. Its number in the direction of travel.
+fn stage_at(rising: bool, log: usize, index: usize) -> usize
+    requires { ⌜ (log ≤ 6) × (6 - log ≤ index) × (index < 6) ⌝ }
+    ensures { λ r. ⌜ (r < 6) × (r ≡ cond rising (5 - index) (index - (6 - log))) ⌝ }
+{
+    if rising {
+        return 5 - index;
+    }
+    index - (6 - log)
+}
+
+// internal: the swaps of six columns by their index in the table. They serve any number of words.
+pub fn prepare(columns: [u32; 6]) -> [u64; 6]
+    ensures { λ r. ⌜ r ≡ swapsAt (falling 6) columns ⌝ }
+{
+    let mut words = [0u64; 6];
+    let mut index: usize = 0;
+    while index < 6 {
+        words[index] = swaps(index, columns[index]);
+        index += 1;
+    }
+    words
+}
+
+// internal: through six stages, the widest first
+pub fn fall(words: [u64; 6], word: u64) -> u64
+    ensures { λ r. ⌜ r ≡ exchangesOf (falling 6) words word ⌝ }
+{
+    let mut carried = word;
+    let mut index: usize = 0;
+    while index < 6 {
+        carried = exchange(index, words[index], carried);
+        index += 1;
+    }
+    carried
+}
+
+// internal: through six stages, the narrowest first
+pub fn rise(words: [u64; 6], word: u64) -> u64
+    ensures { λ r. ⌜ r ≡ exchangesOf (rising 6) (reverse words) word ⌝ }
+{
+    let mut carried = word;
+    let mut index: usize = 6;
+    while 0 < index {
+        index -= 1;
+        carried = exchange(index, words[index], carried);
+    }
+    carried
+}
+
+// internal: a logarithm of at most 6, and a word of that width. Through the inverse (rising) or the butterfly.
+fn carry(rising: bool, log: usize, stages: [u32; 6], word: u64) -> u64
+    requires { ⌜ (log ≤ 6) × (word < 2 ^ (2 ^ log)) ⌝ }
+    ensures { λ r. ⌜ r ≡ travelOf rising log stages word ⌝ }
+{
+    let words = prepare(by_index(rising, log, stages));
+    if rising {
+        return rise(words, word);
+    }
+    fall(words, word)
+}
+
+// internal: a logarithm of at most 6. How many control bits stage `at` uses.
+fn used_bits(log: usize, at: usize) -> u32
+    requires { ⌜ log ≤ 6 ⌝ }
+    ensures { λ r. ⌜ r ≡ usedBits log at ⌝ }
+{
+    if at < log {
+        return 1 << (log - 1);
+    }
+    0
+}
+
+// internal: a logarithm of at most 6. Whether no unused control bit is one.
+fn is_used_only(log: usize, stages: [u32; 6]) -> bool
+    requires { ⌜ log ≤ 6 ⌝ }
+    ensures { λ r. ⌜ r ≡ controlsFit log 0 stages ⌝ }
+{
+    let mut at: usize = 0;
+    while at < 6 {
+        if !bits::is_within(used_bits(log, at), stages[at] as u64) {
+            return false;
+        }
+        at += 1;
+    }
+    true
+}
+
+// The lowest refusal of a call on a network; 0 if it is carried out.
+fn carry_refusal(width: u32, stages: [u32; 6], word: u64) -> u8
+    ensures { λ r. ⌜ r ≡ carryRefusal width stages word ⌝ }
+{
+    let log = bits::log_of(width) as usize;
+    if log == 0 {
+        return bits::WIDTH;
+    }
+    if !bits::is_within(width, word) {
+        return bits::ABOVE;
+    }
+    if !is_used_only(log, stages) {
+        return bits::UNUSED;
+    }
+    bits::CARRIED_OUT
+}
+
+// A call on the inverse (rising) or on the butterfly.
+fn through(rising: bool, width: u32, controls: Controls, word: u64) -> Carried
+    ensures { λ r. ⌜ r ≡ carryAnswer (travelOf rising) width controls word ⌝ }
+{
+    let stages = controls.stages;
+    let refused = carry_refusal(width, stages, word);
+    if refused != 0 {
+        return Carried {
+            refusal: refused,
+            word: 0,
+        };
+    }
+    Carried {
+        refusal: 0,
+        word: carry(rising, bits::log_of(width) as usize, stages, word),
+    }
+}
+
+// The word through the butterfly: distances w/2, .., 2, 1.
+pub fn butterfly(width: u32, controls: Controls, word: u64) -> Carried
+    ensures { λ r. ⌜ r ≡ carryAnswer butterflyOf width controls word ⌝ }
+{
+    through(false, width, controls, word)
+}
+
+// The word through the inverse butterfly: distances 1, 2, .., w/2.
+pub fn inverse(width: u32, controls: Controls, word: u64) -> Carried
+    ensures { λ r. ⌜ r ≡ carryAnswer inverseOf width controls word ⌝ }
+{
+    through(true, width, controls, word)
+}
+
+// internal: a distance of 1 to 32. As many zeros turned left `count` steps: after `distance` steps all are ones, after twice as many zeros again.
+fn turned_bits(distance: u64, count: u64) -> u64
+    requires { ⌜ (0 < distance) × (distance ≤ 32) ⌝ }
+    ensures { λ r. ⌜ r ≡ turned distance count ⌝ }
+{
+    let steps = count % (2 * distance);
+    if steps <= distance {
+        return (1 << steps) - 1;
+    }
+    (1 << distance) - (1 << (steps - distance))
+}
+
+// internal: at most 32 control bits, `distance` for each block. The control bits of one stage.
+fn stage_bits(distance: u64, blocks: u64, mask: u64) -> u64
+    requires { ⌜ (0 < distance) × (distance * blocks ≤ 32) ⌝ }
+    ensures { λ r. ⌜ r ≡ ofBits (distance * blocks) (controlAt distance mask) ⌝ }
+{
+    let mut out: u64 = 0;
+    let mut block: u64 = 0;
+    while block < blocks {
+        let below = mask % (1 << (2 * block * distance + distance));
+        out += turned_bits(distance, bits::count(below)) << (distance * block);
+        block += 1;
+    }
+    out
+}
+
+// internal: a logarithm of at most 6. The butterfly's controls for a mask.
+fn decode_stages(log: usize, mask: u64) -> [u32; 6]
+    requires { ⌜ log ≤ 6 ⌝ }
+    ensures { λ r. ⌜ r ≡ six (decodeOf log mask) ⌝ }
+{
+    let mut stages = [0u32; 6];
+    let mut at: usize = 0;
+    while at < log {
+        stages[at] = stage_bits(DISTANCES[6 - log + at], 1 << at, mask) as u32;
+        at += 1;
+    }
+    stages
+}
+
+// internal: a logarithm of at most 6. The stages in use in reversed order.
+fn reversed(log: usize, stages: [u32; 6]) -> [u32; 6]
+    requires { ⌜ log ≤ 6 ⌝ }
+    ensures { λ r. ⌜ r ≡ six (reverse (take log stages)) ⌝ }
+{
+    let mut out = [0u32; 6];
+    let mut at: usize = 0;
+    while at < log {
+        out[at] = stages[log - 1 - at];
+        at += 1;
+    }
+    out
+}
+
+// The lowest refusal of a call of the decoder; 0 if it is carried out.
+fn decode_refusal(width: u32, mask: u64) -> u8
+    ensures { λ r. ⌜ r ≡ decodeRefusal width mask ⌝ }
+{
+    if bits::log_of(width) == 0 {
+        return bits::WIDTH;
+    }
+    if !bits::is_within(width, mask) {
+        return bits::ABOVE;
+    }
+    bits::CARRIED_OUT
+}
+
+// The controls of both networks that route by the mask: the butterfly scatters, the inverse gathers.
+pub fn decode(width: u32, mask: u64) -> Decoded
+    ensures { λ r. ⌜ r ≡ decodeAnswer width mask ⌝ }
+{
+    let refused = decode_refusal(width, mask);
+    if refused != 0 {
+        return Decoded {
+            refusal: refused,
+            butterfly: Controls { stages: [0u32; 6] },
+            inverse: Controls { stages: [0u32; 6] },
+        };
+    }
+    let log = bits::log_of(width) as usize;
+    let stages = decode_stages(log, mask);
+    Decoded {
+        refusal: 0,
+        butterfly: Controls { stages },
+        inverse: Controls {
+            stages: reversed(log, stages),
+        },
+    }
+}

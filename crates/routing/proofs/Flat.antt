@@ -1,0 +1,231 @@
+-- Stages over the whole width and stages by halves are the same controls.
+-- Assumes nothing.
+use mathlib.Core.Path.{_≡_, refl, sym, ap, _∙_, subst}
+use mathlib.Core.Bool.{Bool, true, false, cond}
+use Prim.Native.Nat.{ℕ, zero, suc, _+_, _^_, _<_}
+use native.Mathlib.Decide.{decLt}
+use native.Mathlib.Omega.{arith}
+use borrow.Author.Tests.{eq-eqb, ne-eqb}
+use Rattle.routing.specs.Place.{Place, weight, num, place, at, tab}
+use Rattle.routing.specs.Loop.{stage}
+use Rattle.routing.specs.Net.{ControlTree, half, butterflySource, inverseSource}
+use Rattle.routing.specs.Stages.{through, butterfly, inverse, InRange, Same, control, flat}
+use Rattle.routing.proofs.Stage.{pair, stage-stage}
+use Rattle.routing.proofs.Places.{num-lt, num-place, weight-le, place-weight, place-num, at-tab}
+use Rattle.routing.proofs.Through.{within, butterfly-within, inverse-within, through-top}
+
+-- c, by exponents and switch numbers, has the controls of F
+abbrev pub Reads : (n : ℕ) → (ℕ → ℕ → Bool) → ControlTree n → Type 0
+Reads zero c F = Unit {0}
+Reads (suc n) c F =
+    record {
+      outer : (q : Place n) → c n (num n q) ≡ at n (F .outer) q;
+      halves : (h : Bool) → Reads n (within n h c) (half n F h);
+    }
+
+-- so they move bits alike
+pub butterfly-source :
+    (n : ℕ) (c : ℕ → ℕ → Bool) (F : ControlTree n)
+    → Reads n c F
+    → (p : Place n)
+    → butterfly n c (num n p) ≡ num n (butterflySource n F p)
+unfolding num butterfly butterflySource
+butterfly-source zero c F r p = refl
+butterfly-source (suc n) c F r p =
+    let h = p .0 in
+    ap (through n (c n))
+    (butterfly-within n h c (num n (p .1))
+    ∙ ap (λ (y : ℕ). weight h n + y)
+    (butterfly-source n (within n h c) (half n F h) (r .halves h) (p .1)))
+    ∙ through-top n (c n) (at n (F .outer)) (r .outer) (h, butterflySource n (half n F h) (p .1))
+
+pub inverse-source :
+    (n : ℕ) (c : ℕ → ℕ → Bool) (F : ControlTree n)
+    → Reads n c F
+    → (p : Place n)
+    → inverse n c (num n p) ≡ num n (inverseSource n F p)
+unfolding num inverse inverseSource
+inverse-source zero c F r p = refl
+inverse-source (suc n) c F r p =
+    let q = stage (at n (F .outer)) p in
+    let h = q .0 in
+    ap (inverse n c) (through-top n (c n) (at n (F .outer)) (r .outer) p)
+    ∙ inverse-within n h c (num n (q .1))
+    ∙ ap (λ (y : ℕ). weight h n + y)
+    (inverse-source n (within n h c) (half n F h) (r .halves h) (q .1))
+
+pub within-range : (k : ℕ) (h : Bool) (e s : ℕ) → InRange (suc k) e s → InRange (suc (suc k)) e (weight h k + s)
+within-range k h e s i = record { at-stage = omega (arith, i .at-stage); switch = omega (arith, i .switch, weight-le h k) }
+
+pub agree-within :
+    (n : ℕ) (h : Bool) (c d : ℕ → ℕ → Bool)
+    → Same (suc n) c d
+    → Same n (within n h c) (within n h d)
+agree-within zero h c d agree e s i = absurd (omega (arith, i .at-stage))
+agree-within (suc k) h c d agree e s i = agree e (weight h k + s) (within-range k h e s i)
+
+pub reads-cong :
+    (n : ℕ) (c d : ℕ → ℕ → Bool) (F : ControlTree n) → Same n c d → Reads n d F → Reads n c F
+reads-cong zero c d F agree r = tt
+reads-cong (suc n) c d F agree r =
+    record {
+      outer = λ q.
+          agree n (num n q) (record { at-stage = omega arith; switch = omega (arith, num-lt n q) })
+          ∙ r .outer q;
+      halves = λ h.
+          reads-cong n (within n h c) (within n h d) (half n F h) (agree-within n h c d agree) (r .halves h);
+    }
+
+control-outer : (n : ℕ) (F : ControlTree (suc n)) (q : Place n) → control n F n q ≡ at n (F .outer) q
+unfolding control
+control-outer zero F q = refl
+control-outer (suc n) F q =
+    ap
+    (λ (b : Bool). cond b (at (suc n) (F .outer) q) (control n (half (suc n) F (q .0)) (suc n) (q .1)))
+    (eq-eqb (suc n) (suc n) refl)
+
+control-inner :
+    (k : ℕ) (F : ControlTree (suc (suc k))) (h : Bool) (e s : ℕ)
+    → InRange (suc k) e s
+    → control (suc k) F e (place (suc k) (weight h k + s)) ≡ control k (half (suc k) F h) e (place k s)
+unfolding control
+control-inner k F h e s i =
+    ap (control (suc k) F e) (place-weight h k s (omega (arith, i .switch)))
+    ∙ ap
+    (λ (b : Bool). cond b (at (suc k) (F .outer) (h, place k s)) (control k (half (suc k) F h) e (place k s)))
+    (ne-eqb e (suc k) (λ q. absurd (omega (arith, i .at-stage))))
+
+-- the stages of a network by halves, read over the whole width
+pub reads-flat : (n : ℕ) (F : ControlTree n) → Reads n (flat n F) F
+unfolding flat
+reads-flat zero F = tt
+reads-flat (suc n) F =
+    record {
+      outer = λ q. ap (control n F n) (place-num n q) ∙ control-outer n F q;
+      halves = λ h.
+          reads-cong n (within n h (flat (suc n) F)) (flat n (half n F h)) (half n F h) (inner n F h)
+          (reads-flat n (half n F h));
+    }
+  where
+    inner : (n : ℕ) (F : ControlTree (suc n)) (h : Bool) → Same n (within n h (flat (suc n) F)) (flat n (half n F h))
+    inner zero F h e s i = absurd (omega (arith, i .at-stage))
+    inner (suc k) F h e s i = control-inner k F h e s i
+
+-- and the other way
+pub treeOf : (n : ℕ) → (ℕ → ℕ → Bool) → ControlTree n
+treeOf zero c = tt
+treeOf (suc n) c =
+    record {
+      outer = tab n (λ q. c n (num n q));
+      lower = treeOf n (within n false c);
+      upper = treeOf n (within n true c);
+    }
+
+pub reads-tree : (n : ℕ) (c : ℕ → ℕ → Bool) → Reads n c (treeOf n c)
+unfolding treeOf half
+reads-tree zero c = tt
+reads-tree (suc n) c =
+    record {
+      outer = λ q. sym (at-tab n (λ q. c n (num n q)) q);
+      halves = λ h. go h (reads-tree n (within n false c)) (reads-tree n (within n true c));
+    }
+  where
+    go :
+        (h : Bool)
+        → Reads n (within n false c) (treeOf n (within n false c))
+        → Reads n (within n true c) (treeOf n (within n true c))
+        → Reads n (within n h c) (cond h (treeOf n (within n true c)) (treeOf n (within n false c)))
+    go false l u = l
+    go true l u = u
+
+-- controls that the same stages have are the same
+reads-inner :
+    (n : ℕ) (c d : ℕ → ℕ → Bool)
+    → ((h : Bool) → Same n (within n h c) (within n h d))
+    → (e : ℕ)
+    → e < n
+    → (q : Place n)
+    → c e (num n q) ≡ d e (num n q)
+unfolding num
+reads-inner zero c d halves e l q = absurd (omega arith)
+reads-inner (suc k) c d halves e l q =
+    halves (q .0) e (num k (q .1)) (record { at-stage = l; switch = omega (arith, num-lt k (q .1)) })
+
+pub reads-same : (n : ℕ) (c d : ℕ → ℕ → Bool) (F : ControlTree n) → Reads n c F → Reads n d F → Same n c d
+reads-same zero c d F rc rd e s i = absurd (omega (arith, i .at-stage))
+reads-same (suc n) c d F rc rd e s i =
+    subst (λ (y : ℕ). c e y ≡ d e y) (num-place n s (omega (arith, i .switch)))
+    (go (decLt e n) (λ h. reads-same n (within n h c) (within n h d) (half n F h) (rc .halves h) (rd .halves h)))
+  where
+    q : Place n
+    q = place n s
+
+    go :
+        Dec (e < n)
+        → ((h : Bool) → Same n (within n h c) (within n h d))
+        → c e (num n q) ≡ d e (num n q)
+    go (yes l) halves = reads-inner n c d halves e l q
+    go (no g) halves =
+        let x : n ≡ e = omega (arith, i .at-stage) in
+        subst (λ (k : ℕ). c k (num n q) ≡ d k (num n q)) x (rc .outer q ∙ sym (rd .outer q))
+
+-- the inverse undoes the butterfly of the same controls, and the other way
+pub butterfly-inverse-place : (n : ℕ) (F : ControlTree n) (p : Place n) → butterflySource n F (inverseSource n F p) ≡ p
+unfolding butterflySource inverseSource
+butterfly-inverse-place zero F p = refl
+butterfly-inverse-place (suc n) F p =
+    let q = stage (at n (F .outer)) p in
+    ap (λ (y : Place n). stage (at n (F .outer)) (q .0, y)) (butterfly-inverse-place n (half n F (q .0)) (q .1))
+    ∙ stage-stage (at n (F .outer)) p
+
+pub inverse-butterfly-place : (n : ℕ) (F : ControlTree n) (p : Place n) → inverseSource n F (butterflySource n F p) ≡ p
+unfolding butterflySource inverseSource
+inverse-butterfly-place zero F p = refl
+inverse-butterfly-place (suc n) F p =
+    ap (λ (z : Place (suc n)). (z .0, inverseSource n (half n F (z .0)) (z .1)))
+    (stage-stage (at n (F .outer)) (p .0, butterflySource n (half n F (p .0)) (p .1)))
+    ∙ pair refl (inverse-butterfly-place n (half n F (p .0)) (p .1))
+
+module _ (n : ℕ) (c : ℕ → ℕ → Bool) (p : ℕ) (l : p < 2 ^ n) where
+  pub butterfly-inverse : butterfly n c (inverse n c p) ≡ p
+  butterfly-inverse =
+      let F = treeOf n c in
+      let r = reads-tree n c in
+      let e = num-place n p l in
+      ap (λ (y : ℕ). butterfly n c (inverse n c y)) (sym e)
+      ∙ ap (butterfly n c) (inverse-source n c F r (place n p))
+      ∙ butterfly-source n c F r (inverseSource n F (place n p))
+      ∙ ap (num n) (butterfly-inverse-place n F (place n p))
+      ∙ e
+
+  pub inverse-butterfly : inverse n c (butterfly n c p) ≡ p
+  inverse-butterfly =
+      let F = treeOf n c in
+      let r = reads-tree n c in
+      let e = num-place n p l in
+      ap (λ (y : ℕ). inverse n c (butterfly n c y)) (sym e)
+      ∙ ap (inverse n c) (butterfly-source n c F r (place n p))
+      ∙ inverse-source n c F r (butterflySource n F (place n p))
+      ∙ ap (num n) (inverse-butterfly-place n F (place n p))
+      ∙ e
+
+  -- controls that are the same move bits alike
+  pub butterfly-cong : (d : ℕ → ℕ → Bool) → Same n c d → butterfly n c p ≡ butterfly n d p
+  butterfly-cong d same =
+      let F = treeOf n d in
+      let r = reads-tree n d in
+      let e = num-place n p l in
+      ap (butterfly n c) (sym e)
+      ∙ butterfly-source n c F (reads-cong n c d F same r) (place n p)
+      ∙ sym (butterfly-source n d F r (place n p))
+      ∙ ap (butterfly n d) e
+
+  pub inverse-cong : (d : ℕ → ℕ → Bool) → Same n c d → inverse n c p ≡ inverse n d p
+  inverse-cong d same =
+      let F = treeOf n d in
+      let r = reads-tree n d in
+      let e = num-place n p l in
+      ap (inverse n c) (sym e)
+      ∙ inverse-source n c F (reads-cong n c d F same r) (place n p)
+      ∙ sym (inverse-source n d F r (place n p))
+      ∙ ap (inverse n d) e

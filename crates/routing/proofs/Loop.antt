@@ -1,0 +1,197 @@
+-- One level: loops close, no loop meets both bits of a switch, and the first stage by least switches is valid and first.
+-- Assumes nothing.
+use mathlib.Core.Path.{_≡_, refl, sym, ap, _∙_}
+use mathlib.Core.Logic.{_⊎_, inl, inr}
+use mathlib.Core.Bool.{Bool, true, false, cond}
+use Prim.Native.Nat.{ℕ, zero, suc, _+_, _-_, _≤_, _<_}
+use native.Mathlib.Nat.{suc-add, zero-add, add-comm}
+use native.Mathlib.Decide.{decLt}
+use native.Mathlib.Omega.{arith}
+use lib.Dec.{leb}
+use Rattle.routing.specs.Loop.{Maps, IsPermutation, flip, side, Valid, turn, turns, least}
+use Rattle.routing.proofs.Finite.{pigeonhole}
+use Rattle.routing.proofs.Stage.{not-not, flip-flip, flip-ne, same-switch, side-flip}
+
+-- a finite set of switches, each with a number of its own
+pub record Numbered (S : Type 0) : Type 0 where
+  pub index : S → ℕ
+  pub count : ℕ
+  pub small : (s : S) → index s < count
+  pub injective : (s t : S) → index s ≡ index t → s ≡ t
+
+pub record Reach {S : Type 0} (m : Maps (Bool × S)) (x y : Bool × S) : Type 0 where
+  pub steps : ℕ
+  pub ends : turns m steps x ≡ y
+
+module _ {S : Type 0} (m : Maps (Bool × S)) (perm : IsPermutation m) where
+  pub turn-back : (x : Bool × S) → turn m (flip (turn m x)) ≡ flip x
+  unfolding turn
+  turn-back x =
+      rw (flip-flip (m .to (flip (m .from x))), perm .from-to (flip (m .from x)), flip-flip (m .from x), perm .to-from x)
+
+  pub turn-injective : (x y : Bool × S) → turn m x ≡ turn m y → x ≡ y
+  turn-injective x y e = cc (turn-back x, turn-back y, flip-flip x, flip-flip y)
+
+  pub turns-suc : (k : ℕ) (x : Bool × S) → turns m (suc k) x ≡ turn m (turns m k x)
+  unfolding turns
+  turns-suc zero x = refl
+  turns-suc (suc k) x = turns-suc k (turn m x)
+
+  pub turns-add : (j k : ℕ) (x : Bool × S) → turns m (j + k) x ≡ turns m k (turns m j x)
+  unfolding turns
+  turns-add zero k x = rw zero-add
+  turns-add (suc j) k x = rw suc-add (turns-add j k (turn m x))
+
+  pub turns-injective : (k : ℕ) (x y : Bool × S) → turns m k x ≡ turns m k y → x ≡ y
+  unfolding turns
+  turns-injective zero x y e = e
+  turns-injective (suc k) x y e = turn-injective x y (turns-injective k (turn m x) (turn m y) e)
+
+  turn-ne-flip : (x : Bool × S) → turn m x ≡ flip x → ⊥
+  unfolding turn
+  turn-ne-flip x e =
+      flip-ne (m .from x)
+      (cc (perm .from-to (flip (m .from x)), flip-flip x, flip-flip (m .to (flip (m .from x))), e))
+
+  -- no loop meets both bits of a switch
+  pub no-flip : (k : ℕ) (x : Bool × S) → turns m k x ≡ flip x → ⊥
+  unfolding turns
+  no-flip zero x e = flip-ne x (sym e)
+  no-flip (suc zero) x e = turn-ne-flip x e
+  no-flip (suc (suc k)) x e =
+      no-flip k (turn m x)
+      (turn-injective (turns m k (turn m x)) (flip (turn m x))
+      (sym (turns-suc k (turn m x)) ∙ e ∙ sym (turn-back x)))
+
+  -- so bits of one loop at one switch are equal
+  pub same-on-loop : (k : ℕ) (x : Bool × S) → turns m k x .1 ≡ x .1 → turns m k x ≡ x
+  same-on-loop k x e = go (same-switch (turns m k x) x e)
+    where
+      go : (turns m k x ≡ x) ⊎ (turns m k x ≡ flip x) → turns m k x ≡ x
+      go (inl p) = p
+      go (inr p) = absurd (no-flip k x p)
+
+  -- a loop that comes back to a switch closes
+  pub repeats : (i d : ℕ) (x : Bool × S) → turns m (i + d) x .1 ≡ turns m i x .1 → turns m d x ≡ x
+  repeats i d x e =
+      turns-injective i (turns m d x) x
+      (sym (turns-add d i x)
+      ∙ ap (λ (k : ℕ). turns m k x) (add-comm d i)
+      ∙ turns-add i d x
+      ∙ same-on-loop d (turns m i x) (ap (λ (y : Bool × S). y .1) (sym (turns-add i d x)) ∙ e))
+
+  -- the loop of the other bits runs the other way
+  pub turns-back : (k : ℕ) (x : Bool × S) → turns m k (flip (turns m k x)) ≡ flip x
+  unfolding turns
+  turns-back zero x = refl
+  turns-back (suc k) x =
+      turns-suc k (flip (turns m k (turn m x))) ∙ ap (turn m) (turns-back k (turn m x)) ∙ turn-back x
+
+  -- a valid stage sends a loop to one side
+  pub side-turn : (f : S → Bool) → Valid m f → (x : Bool × S) → side f (turn m x) ≡ side f x
+  unfolding turn
+  side-turn f valid x =
+      cc
+      (side-flip f (m .to (flip (m .from x))), valid (m .from x), perm .to-from x, not-not (side f (m .to (m .from x))))
+
+  pub side-turns :
+      (f : S → Bool) → Valid m f → (k : ℕ) (x : Bool × S) → side f (turns m k x) ≡ side f x
+  unfolding turns
+  side-turns f valid zero x = refl
+  side-turns f valid (suc k) x = side-turns f valid k (turn m x) ∙ side-turn f valid x
+
+module _ {S : Type 0} (K : Numbered S) (m : Maps (Bool × S)) (perm : IsPermutation m) where
+  -- a loop closes in at most as many turns as there are switches
+  pub record Period (x : Bool × S) : Type 0 where
+    pub rest : ℕ
+    pub short : rest < K .count
+    pub closes : turns m (suc rest) x ≡ x
+
+  pub period : (x : Bool × S) → Period x
+  period x =
+      let c =
+      pigeonhole (K .count) (λ i. K .index (turns m i x .1)) (λ i h. K .small (turns m i x .1)) in
+      let d = c .high - suc (c .low) in
+      let e : c .high ≡ c .low + suc d = omega (arith, c .ordered) in
+      record {
+        rest = d;
+        short = omega (arith, c .ordered, c .within);
+        closes =
+            repeats m perm (c .low) (suc d) x
+            (ap (λ (k : ℕ). turns m k x .1) (sym e)
+            ∙ sym (K .injective (turns m (c .low) x .1) (turns m (c .high) x .1) (c .same)));
+      }
+
+  pub reach-step : {x y z : Bool × S} → Reach m x y → Reach m y z → Reach m x z
+  reach-step {x} {y} {z} a b =
+      record {
+        steps = a .steps + b .steps;
+        ends =
+            turns-add m perm (a .steps) (b .steps) x ∙ ap (turns m (b .steps)) (a .ends) ∙ b .ends;
+      }
+
+  pub return : (k : ℕ) (x : Bool × S) → Reach m (turns m k x) x
+  unfolding turns
+  return zero x = record { steps = 0; ends = refl }
+  return (suc k) x =
+      let p = period x in
+      reach-step (return k (turn m x)) (record { steps = p .rest; ends = p .closes })
+
+  pub reach-sym : {x y : Bool × S} → Reach m x y → Reach m y x
+  reach-sym {x} {y} a =
+      let r = return (a .steps) x in
+      record { steps = r .steps; ends = ap (turns m (r .steps)) (sym (a .ends)) ∙ r .ends }
+
+  pub reach-flip : {x y : Bool × S} → Reach m x y → Reach m (flip x) (flip y)
+  reach-flip {x} {y} a =
+      let b = reach-sym a in
+      record {
+        steps = b .steps;
+        ends =
+            ap (λ (z : Bool × S). turns m (b .steps) (flip z)) (sym (b .ends))
+            ∙ turns-back m perm (b .steps) y;
+      }
+
+  pub stay : (x : Bool × S) → Reach m x x
+  unfolding turns
+  stay x = record { steps = 0; ends = refl }
+
+  pub reach-turn : (x : Bool × S) → Reach m x (turn m x)
+  unfolding turns
+  reach-turn x = record { steps = 1; ends = refl }
+
+  -- y is the bit of the least switch on the loop of x
+  pub record IsLeast (x y : Bool × S) : Type 0 where
+    pub on : Reach m x y
+    pub least-of : (z : Bool × S) → Reach m x z → K .index (y .1) ≤ K .index (z .1)
+
+  pub least-unique : (x y z : Bool × S) → IsLeast x y → IsLeast x z → y ≡ z
+  least-unique x y z a b =
+      let e : K .index (y .1) ≡ K .index (z .1) =
+      omega (arith, a .least-of z (b .on), b .least-of y (a .on)) in
+      let r = reach-step (reach-sym (b .on)) (a .on) in
+      sym (r .ends)
+      ∙ same-on-loop m perm (r .steps) z
+      (ap (λ (u : Bool × S). u .1) (r .ends) ∙ K .injective (y .1) (z .1) e)
+
+  -- a loop is met within its period
+  pub within : (x : Bool × S) (p : Period x) (i : ℕ) → (j : ℕ) × (j ≤ p .rest) × (turns m i x ≡ turns m j x)
+  unfolding turns
+  within x p zero = (0, omega arith, refl)
+  within x p (suc i) = go (within x p i)
+    where
+      go : (j : ℕ) × (j ≤ p .rest) × (turns m i x ≡ turns m j x) → (j : ℕ) × (j ≤ p .rest) × (turns m (suc i) x ≡ turns m j x)
+      go r = at (r .0) (r .1) (turns-suc m perm i x ∙ ap (turn m) (r .2) ∙ sym (turns-suc m perm (r .0) x)) (decLt (r .0) (p .rest))
+        where
+          at : (j : ℕ) → j ≤ p .rest → turns m (suc i) x ≡ turns m (suc j) x → Dec (j < p .rest) → (j : ℕ) × (j ≤ p .rest) × (turns m (suc i) x ≡ turns m j x)
+          at j h e (yes l) = (suc j, l, e)
+          at j h e (no g) = let q : j ≡ p .rest = omega arith in (0, omega arith, e ∙ ap (λ (k : ℕ). turns m (suc k) x) q ∙ p .closes)
+
+  pub least-on : (k : ℕ) (x : Bool × S) → Reach m x (least (K .index) m k x)
+  unfolding least turns
+  least-on zero x = record { steps = 0; ends = refl }
+  least-on (suc k) x = go (leb (K .index (x .1)) (K .index (least (K .index) m k (turn m x) .1))) (least-on k (turn m x))
+    where
+      go : (b : Bool) → Reach m (turn m x) (least (K .index) m k (turn m x)) → Reach m x (cond b x (least (K .index) m k (turn m x)))
+      go true r = record { steps = 0; ends = refl }
+      go false r = record { steps = suc (r .steps); ends = r .ends }

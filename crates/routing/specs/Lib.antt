@@ -1,0 +1,9 @@
+pub mod Place
+pub mod Loop
+pub mod Marks
+pub mod Net
+pub mod Stages
+pub mod FirstControls
+pub mod Level
+pub mod Alone
+pub mod Lists

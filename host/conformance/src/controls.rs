@@ -1,0 +1,22 @@
+//! Controls of a width.
+
+use crate::low_ones;
+pub use model::network::Controls;
+
+/// How many stages a network has: the base-two logarithm of its width.
+pub fn stages(width: u32) -> usize {
+    width.ilog2() as usize
+}
+
+/// Every switch at pass.
+pub fn pass_all(width: u32) -> Controls {
+    let mut controls = Controls::default();
+    controls[..stages(width)].fill(low_ones(width / 2) as u32);
+    controls
+}
+
+/// The same stages in reversed order.
+pub fn reversed(width: u32, mut controls: Controls) -> Controls {
+    controls[..stages(width)].reverse();
+    controls
+}
