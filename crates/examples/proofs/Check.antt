@@ -9,6 +9,17 @@ use Rattle.network.specs.Stage.{switchOf, partner, source, stage, travel, falli
 use Rattle.network.specs.Decoder.{turn, turned, controlAt, column, decodeOf, decodeInverseOf}
 use Rattle.network.specs.Calls.{carryRefusal, carryAnswer, decodeRefusal, decodeAnswer}
 use Rattle.gather.specs.Gather.{gatherOf, scatterOf, groupOf, refusalOf, answerOf}
+use Rattle.routing.specs.Place.{weight, num, place, at, tab}
+use Rattle.routing.specs.Loop.{flip, side, least, firstStage, lastStage, between}
+use Rattle.routing.specs.Loop as loop
+use Rattle.routing.specs.Net.{half, part, join, firstNet}
+use Rattle.routing.specs.Stages.{control, flat}
+use Rattle.routing.specs.Stages as placed
+use Rattle.routing.specs.FirstControls.{onPlaces, firstControls}
+use Rattle.routing.specs.Alone.{forced, butterflyControls, inverseControls, everyBelow, butterflyTest, inverseTest}
+use Rattle.routing.specs.Lists.{find, controlsOf, wordOf, controlIn, butterflyWords, inverseWords, wordsOf, firstWords, butterflyFits, inverseFits, butterflyAlone, inverseAlone}
+use Rattle.permute.specs.Permutation.{absent, namesOnce}
+use Rattle.permute.specs.Calls.{routeRefusal, routeAnswer, oneRefusal, oneAnswer}
 use Rattle.examples.specs.Rows.{Row, outcomeOf, rows, Hold}
 
 same : List ℕ → List ℕ → Bool
@@ -43,6 +54,11 @@ test : T (allHold rows)
 unfolding allHold same outcomeOf answerOf refusalOf gatherOf scatterOf groupOf pick put places ofBits bit rank
     carryAnswer carryRefusal butterflyOf travel stage source partner switchOf falling
     decodeAnswer decodeRefusal decodeOf decodeInverseOf column controlAt turned turn
+    routeAnswer routeRefusal oneAnswer oneRefusal namesOnce absent firstWords butterflyFits inverseFits butterflyAlone inverseAlone
+    controlsOf find wordOf wordsOf controlIn butterflyWords inverseWords firstControls onPlaces firstNet half part join control flat
+    weight num place at tab flip side loop.stage loop.turn least firstStage lastStage between
+    forced butterflyControls inverseControls everyBelow butterflyTest inverseTest
+    placed.switchOf placed.partner placed.through placed.butterfly placed.inverse
 test = tt
 
 -- Every marked row: its call has its outcome.

@@ -7,6 +7,10 @@ use Rattle.network.specs.declared.Carried.{Carried}
 use Rattle.network.specs.declared.Decoded.{Decoded}
 use Rattle.network.specs.Stage.{butterflyOf}
 use Rattle.network.specs.Calls.{carryAnswer, decodeAnswer}
+use Rattle.routing.specs.Lists.{butterflyFits, butterflyAlone, inverseFits, inverseAlone}
+use Rattle.permute.specs.declared.Routed.{Routed}
+use Rattle.permute.specs.declared.RoutedOne.{RoutedOne}
+use Rattle.permute.specs.Calls.{routeAnswer, oneAnswer}
 use Rattle.gather.specs.Gather.{gatherOf, scatterOf, groupOf, answerOf}
 
 -- A call of the unit, with its arguments
@@ -16,6 +20,9 @@ pub data Call : Type 0 where
   group : (w m x : ℕ) → Call
   decode : (w m : ℕ) → Call
   butterfly : (w : ℕ) (stages : List ℕ) (x : ℕ) → Call
+  route : (w : ℕ) (entries : List ℕ) → Call
+  routeButterfly : (w : ℕ) (entries : List ℕ) → Call
+  routeInverse : (w : ℕ) (entries : List ℕ) → Call
 
 -- the whole answer of a call as numbers, the refusal first
 abbrev pub gathered : Gathered → List ℕ
@@ -27,12 +34,21 @@ carried r = r .refusal ∷ r .word ∷ []
 abbrev pub decoded : Decoded → List ℕ
 decoded r = r .refusal ∷ r .butterfly .stages ++ r .inverse .stages
 
+abbrev pub routed : Routed → List ℕ
+routed r = r .refusal ∷ r .butterfly .stages ++ r .inverse .stages
+
+abbrev pub routedOne : RoutedOne → List ℕ
+routedOne r = r .refusal ∷ r .controls .stages
+
 unfoldable pub outcomeOf : Call → List ℕ
 outcomeOf (gather w m x) = gathered (answerOf gatherOf w m x)
 outcomeOf (scatter w m x) = gathered (answerOf scatterOf w m x)
 outcomeOf (group w m x) = gathered (answerOf groupOf w m x)
 outcomeOf (decode w m) = decoded (decodeAnswer w m)
 outcomeOf (butterfly w cs x) = carried (carryAnswer butterflyOf w (record { stages = cs }) x)
+outcomeOf (route w es) = routed (routeAnswer w es)
+outcomeOf (routeButterfly w es) = routedOne (oneAnswer butterflyFits butterflyAlone w es)
+outcomeOf (routeInverse w es) = routedOne (oneAnswer inverseFits inverseAlone w es)
 
 pub record Row : Type 0 where
   pub call : Call
@@ -42,7 +58,11 @@ pub record Row : Type 0 where
 abbrev zeros : List ℕ
 zeros = 0 ∷ 0 ∷ 0 ∷ 0 ∷ 0 ∷ 0 ∷ []
 
--- Rows 1 to 6
+-- the permutation of rows 8 and 9
+abbrev exchange14 : List ℕ
+exchange14 = 0 ∷ 4 ∷ 2 ∷ 3 ∷ 1 ∷ 5 ∷ 6 ∷ 7 ∷ []
+
+-- Rows 1 to 9; row 9 is on either network
 abbrev pub rows : List Row
 rows =
     record { call = gather 8 0xAD 0xB6; outcome = 0 ∷ 0x1A ∷ [] }
@@ -51,6 +71,10 @@ rows =
     ∷ record { call = decode 8 0xAD; outcome = 0 ∷ 0x7 ∷ 0x1 ∷ 0x5 ∷ 0 ∷ 0 ∷ 0 ∷ 0x5 ∷ 0x1 ∷ 0x7 ∷ 0 ∷ 0 ∷ 0 ∷ [] }
     ∷ record { call = decode 8 0; outcome = 0 ∷ zeros ++ zeros }
     ∷ record { call = butterfly 8 zeros 0x01; outcome = 0 ∷ 0x80 ∷ [] }
+    ∷ record { call = route 8 (7 ∷ 6 ∷ 5 ∷ 4 ∷ 3 ∷ 2 ∷ 1 ∷ 0 ∷ []); outcome = 0 ∷ 0xF ∷ 0xF ∷ 0xF ∷ 0 ∷ 0 ∷ 0 ∷ zeros }
+    ∷ record { call = route 8 exchange14; outcome = 0 ∷ 0xD ∷ 0xF ∷ 0xF ∷ 0 ∷ 0 ∷ 0 ∷ 0xB ∷ 0xF ∷ 0xD ∷ 0 ∷ 0 ∷ 0 ∷ [] }
+    ∷ record { call = routeButterfly 8 exchange14; outcome = 6 ∷ zeros }
+    ∷ record { call = routeInverse 8 exchange14; outcome = 6 ∷ zeros }
     ∷ []
 
 -- every row of a list holds: its call has its outcome

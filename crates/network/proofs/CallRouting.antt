@@ -79,19 +79,19 @@ carry-is : (f : ℕ → List ℕ → ℕ → ℕ) (w : ℕ) (k : Controls) (x : 
 carry-is f w k x a h g = sym (carry-done f w k x (sym (carry-refusal-by w (k .stages) x a (lt-ltb x (2 ^ w) h) g)) refl refl refl)
 
 -- a network looks at its own stages only
-abbrev OwnStages : (ℕ → List ℕ → ℕ → ℕ) → Type 0
+abbrev pub OwnStages : (ℕ → List ℕ → ℕ → ℕ) → Type 0
 OwnStages f = (L : ℕ) (cs es : List ℕ) → length cs ≡ L → (x : ℕ) → f L (cs ++ es) x ≡ f L cs x
 
-butterfly-own : OwnStages butterflyOf
+pub butterfly-own : OwnStages butterflyOf
 unfolding butterflyOf
 butterfly-own L cs es e x = travel-own (2 ^ L) (falling L) cs es (e ∙ sym (length-falling L)) x
 
-inverse-own : OwnStages inverseOf
+pub inverse-own : OwnStages inverseOf
 unfolding inverseOf
 inverse-own L cs es e x = travel-own (2 ^ L) (rising L) cs es (e ∙ sym (length-rising L)) x
 
 -- the controls of each stage fit its switches
-abbrev EachFits : ℕ → List ℕ → Type 0
+abbrev pub EachFits : ℕ → List ℕ → Type 0
 EachFits L cs = (length cs ≡ L) × ((i : ℕ) → i < L → getD cs i 0 < 2 ^ (2 ^ L / 2))
 
 reverse-fits : (L : ℕ) (cs : List ℕ) → EachFits L cs → EachFits L (reverse cs)
@@ -108,7 +108,7 @@ decode-fits L m = (
 )
 
 -- a call on L stages that fit
-on-stages : (f : ℕ → List ℕ → ℕ → ℕ) → OwnStages f → (w : ℕ) (cs : List ℕ) (x : ℕ) → accepted w ≡ true → x < 2 ^ w → EachFits (logOf w) cs
+pub on-stages : (f : ℕ → List ℕ → ℕ → ℕ) → OwnStages f → (w : ℕ) (cs : List ℕ) (x : ℕ) → accepted w ≡ true → x < 2 ^ w → EachFits (logOf w) cs
     → carryAnswer f w (controls cs) x ≡ record { refusal = 0; word = f (logOf w) cs x }
 on-stages f own w cs x a h g =
     carry-is f w (controls cs) x a h (six-fit (logOf w) cs (log-le w) (g .0) (g .1))

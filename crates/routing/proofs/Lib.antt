@@ -19,4 +19,4 @@ pub mod Arrays
 pub mod Run
 pub mod Alone
 pub mod AloneWords
-pub mod Rows
+pub mod Width64

@@ -3,6 +3,8 @@
 ghost use mathlib.Core.Path.{_≡_};
 ghost use Rattle.network.specs.Stage.{butterflyOf, inverseOf};
 ghost use Rattle.network.specs.Calls.{carryAnswer, decodeAnswer};
+ghost use Rattle.routing.specs.Lists.{butterflyFits, butterflyAlone, inverseFits, inverseAlone};
+ghost use Rattle.permute.specs.Calls.{routeAnswer, AnswersFirst, oneAnswer};
 ghost use Rattle.gather.specs.Gather.{gatherOf, scatterOf, groupOf, answerOf};
 
 #[no_mangle]
@@ -47,4 +49,26 @@ pub extern "C" fn tb_decode(width: u32, mask: u64) -> network::Decoded
     ensures { λ r. ⌜ r ≡ decodeAnswer width mask ⌝ }
 {
     network::decode(width, mask)
+}
+
+#[no_mangle]
+pub extern "C" fn tb_route(width: u32, permutation: &[u8]) -> permute::Routed
+    ensures { λ r. ⌜ r ≡ routeAnswer width (now (permutation .entry)) ⌝ }
+    ensures first { λ r. ⌜ AnswersFirst width (now (permutation .entry)) r ⌝ }
+{
+    permute::route(width, permutation)
+}
+
+#[no_mangle]
+pub extern "C" fn tb_route_butterfly(width: u32, permutation: &[u8]) -> permute::RoutedOne
+    ensures { λ r. ⌜ r ≡ oneAnswer butterflyFits butterflyAlone width (now (permutation .entry)) ⌝ }
+{
+    permute::route_butterfly(width, permutation)
+}
+
+#[no_mangle]
+pub extern "C" fn tb_route_inverse(width: u32, permutation: &[u8]) -> permute::RoutedOne
+    ensures { λ r. ⌜ r ≡ oneAnswer inverseFits inverseAlone width (now (permutation .entry)) ⌝ }
+{
+    permute::route_inverse(width, permutation)
 }

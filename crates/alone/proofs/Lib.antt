@@ -1,0 +1,5 @@
+pub mod Route
+pub mod Asked
+pub mod Words
+pub mod Steps
+pub mod Calls

@@ -1,0 +1,138 @@
+-- The route of a bit through the butterfly: each stage chooses one bit of the place.
+-- Assumes nothing.
+use mathlib.Core.Path.{_≡_, refl, sym, ap, ap₂, _∙_}
+use mathlib.Core.Bool.{Bool, true, false, not, cond}
+use Prim.Native.Nat.{ℕ, zero, suc, _+_, _-_, _*_, _/_, _%_, _^_, _≤_, _<_}
+use native.Mathlib.Nat.{pow-suc, add-div-right, add-mod-right, div-eq-sub-div, mod-eq-sub-mod, div-div-eq-div-mul, div-eq-of-lt}
+use native.Mathlib.Decide.{decLt}
+use native.Mathlib.Omega.{arith}
+use lib.Dec.{eqb}
+use lib.Pow.{pow-pos, mod-mod-pow}
+use borrow.Author.Tests.{eqb-true, eqb-false, eq-eqb, ne-eqb}
+use Rattle.bits.specs.Bit.{bit}
+use Rattle.bits.proofs.Word.{bit-mod}
+use Rattle.routing.specs.Stages.{switchOf, partner, through, butterfly}
+use Rattle.alone.specs.Asked.{crossed, straight}
+
+pub half-above : (e x : ℕ) → x / 2 ^ suc e ≡ x / 2 ^ e / 2
+half-above e x = rw pow-suc (sym (div-div-eq-div-mul x (2 ^ e) 2))
+
+pub odd-above : (e x : ℕ) → (x / 2 ^ e % 2 ≡ 0 → ⊥) → 2 ^ e ≤ x
+odd-above e x odd = go (decLt x (2 ^ e))
+  where
+    go : Dec (x < 2 ^ e) → 2 ^ e ≤ x
+    go (yes l) = absurd (odd (ap (λ (y : ℕ). y % 2) (div-eq-of-lt l)))
+    go (no n) = omega arith
+
+-- the other number of an even one and the next
+abbrev other : ℕ → ℕ
+other u = u / 2 * 2 + (1 - u % 2)
+
+-- The partner has bit e changed, and a stage changes no other.
+module _ (e x : ℕ) where
+  partner-high : partner e x / 2 ^ e ≡ other (x / 2 ^ e)
+  unfolding partner
+  partner-high = go (eqb (x / 2 ^ e % 2) 0) refl
+    where
+      go : (b : Bool) → eqb (x / 2 ^ e % 2) 0 ≡ b → cond b (x + 2 ^ e) (x - 2 ^ e) / 2 ^ e ≡ other (x / 2 ^ e)
+      go true t = omega (arith, add-div-right x (pow-pos e), eqb-true (x / 2 ^ e % 2) 0 t)
+      go false t =
+          let odd = eqb-false (x / 2 ^ e % 2) 0 t in
+          omega (arith, div-eq-sub-div (pow-pos e) (odd-above e x odd), odd)
+
+  partner-low : partner e x % 2 ^ e ≡ x % 2 ^ e
+  unfolding partner
+  partner-low = go (eqb (x / 2 ^ e % 2) 0) refl
+    where
+      go : (b : Bool) → eqb (x / 2 ^ e % 2) 0 ≡ b → cond b (x + 2 ^ e) (x - 2 ^ e) % 2 ^ e ≡ x % 2 ^ e
+      go true t = add-mod-right x (2 ^ e)
+      go false t = sym (mod-eq-sub-mod (odd-above e x (eqb-false (x / 2 ^ e % 2) 0 t)))
+
+module _ (e : ℕ) (c : ℕ → Bool) (x : ℕ) where
+  through-high : through e c x / 2 ^ e ≡ cond (c (switchOf e x)) (other (x / 2 ^ e)) (x / 2 ^ e)
+  unfolding through
+  through-high = go (c (switchOf e x))
+    where
+      go : (b : Bool) → cond b (partner e x) x / 2 ^ e ≡ cond b (other (x / 2 ^ e)) (x / 2 ^ e)
+      go true = partner-high e x
+      go false = refl
+
+  through-low : through e c x % 2 ^ e ≡ x % 2 ^ e
+  unfolding through
+  through-low = go (c (switchOf e x))
+    where
+      go : (b : Bool) → cond b (partner e x) x % 2 ^ e ≡ x % 2 ^ e
+      go true = partner-low e x
+      go false = refl
+
+  pub through-above : through e c x / 2 ^ suc e ≡ x / 2 ^ suc e
+  through-above = half-above e (through e c x) ∙ go (c (switchOf e x)) through-high ∙ sym (half-above e x)
+    where
+      go : (b : Bool) → through e c x / 2 ^ e ≡ cond b (other (x / 2 ^ e)) (x / 2 ^ e) → through e c x / 2 ^ e / 2 ≡ x / 2 ^ e / 2
+      go true h = omega arith
+      go false h = omega arith
+
+-- the stages below e leave the bits from e up, those from e up leave the bits below
+butterfly-high : (e : ℕ) (c : ℕ → ℕ → Bool) (a : ℕ) → butterfly e c a / 2 ^ e ≡ a / 2 ^ e
+unfolding butterfly
+butterfly-high zero c a = refl
+butterfly-high (suc e) c a =
+    through-above e (c e) (butterfly e c a)
+    ∙ half-above e (butterfly e c a)
+    ∙ ap (λ (u : ℕ). u / 2) (butterfly-high e c a)
+    ∙ sym (half-above e a)
+
+mod-low : (e n x : ℕ) → e ≤ n → x % 2 ^ n % 2 ^ e ≡ x % 2 ^ e
+mod-low e n x l = let q : n ≡ n - e + e = omega arith in ap (λ (m : ℕ). x % 2 ^ m % 2 ^ e) q ∙ mod-mod-pow x (n - e) e
+
+butterfly-low : (n e : ℕ) (c : ℕ → ℕ → Bool) (a : ℕ) → e ≤ n → butterfly n c a % 2 ^ e ≡ butterfly e c a % 2 ^ e
+unfolding butterfly
+butterfly-low zero e c a l = let q : 0 ≡ e = omega arith in ap (λ (m : ℕ). butterfly m c a % 2 ^ e) q
+butterfly-low (suc n) e c a l = go (decLt n e) (butterfly-low n e c a)
+  where
+    go :
+        Dec (n < e)
+        → (e ≤ n → butterfly n c a % 2 ^ e ≡ butterfly e c a % 2 ^ e)
+        → through n (c n) (butterfly n c a) % 2 ^ e ≡ butterfly e c a % 2 ^ e
+    go (yes g) ih = let q : suc n ≡ e = omega arith in ap (λ (m : ℕ). butterfly m c a % 2 ^ e) q
+    go (no g) ih =
+        let h : e ≤ n = omega arith in
+        sym (mod-low e n (through n (c n) (butterfly n c a)) h)
+        ∙ ap (λ (u : ℕ). u % 2 ^ e) (through-low n (c n) (butterfly n c a))
+        ∙ mod-low e n (butterfly n c a) h
+        ∙ ih h
+
+-- the route of bit b to place a, at the stage of exponent e
+module _ (n : ℕ) (c : ℕ → ℕ → Bool) (a b e : ℕ) (brings : butterfly n c a ≡ b) (h : e < n) where
+  route-low : (k : ℕ) → k ≤ n → b % 2 ^ k ≡ butterfly k c a % 2 ^ k
+  route-low k l = ap (λ (x : ℕ). x % 2 ^ k) (sym brings) ∙ butterfly-low n k c a l
+
+  pub route-switch : switchOf e (butterfly e c a) ≡ crossed e a b
+  unfolding switchOf crossed
+  route-switch =
+      let q : butterfly e c a / 2 ^ suc e ≡ a / 2 ^ suc e =
+      half-above e (butterfly e c a) ∙ ap (λ (u : ℕ). u / 2) (butterfly-high e c a) ∙ sym (half-above e a)
+      in
+      ap₂ (λ (j t : ℕ). j * 2 ^ e + t) q (sym (route-low e (omega arith)))
+
+  source-bit : b / 2 ^ e % 2 ≡ butterfly (suc e) c a / 2 ^ e % 2
+  unfolding bit
+  source-bit =
+      sym (bit-mod b (suc e) e (omega arith))
+      ∙ ap (λ (u : ℕ). u / 2 ^ e % 2) (route-low (suc e) h)
+      ∙ bit-mod (butterfly (suc e) c a) (suc e) e (omega arith)
+
+  -- it passes its switch exactly if it goes straight
+  pub route-straight : straight e a b ≡ not (c e (crossed e a b))
+  unfolding straight butterfly
+  route-straight =
+      go (c e (switchOf e (butterfly e c a))) (through-high e (c e) (butterfly e c a))
+      ∙ ap (λ (s : ℕ). not (c e s)) route-switch
+    where
+      go :
+          (d : Bool)
+          → through e (c e) (butterfly e c a) / 2 ^ e
+          ≡ cond d (other (butterfly e c a / 2 ^ e)) (butterfly e c a / 2 ^ e)
+          → eqb (a / 2 ^ e % 2) (b / 2 ^ e % 2) ≡ not d
+      go true t = ne-eqb (a / 2 ^ e % 2) (b / 2 ^ e % 2) (λ q. absurd (omega (arith, butterfly-high e c a, source-bit)))
+      go false t = eq-eqb (a / 2 ^ e % 2) (b / 2 ^ e % 2) (omega (arith, butterfly-high e c a, source-bit))

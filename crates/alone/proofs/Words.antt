@@ -1,0 +1,146 @@
+-- Stages as words: one route more of a stage, and the stages of a network in the direction of travel.
+-- Assumes nothing.
+use mathlib.Core.Path.{_≡_, refl, sym, ap, ap₂, _∙_}
+use mathlib.Core.Bool.{Bool, true, false, cond, _&&_}
+use Prim.Native.Nat.{ℕ, zero, suc, _+_, _-_, _*_, _/_, _^_, _≤_, _<_, max}
+use native.Mathlib.Nat.{one-mul, add-zero}
+use native.Mathlib.Decide.{decLt}
+use native.Mathlib.Omega.{arith}
+use lib.Dec.{eqb}
+use lib.Bits.{bitOr, or-lt, or-zero-r}
+use lib.ListN.{length, getD, replicate, List·getD-append}
+use lib.Pow.{pow-lt}
+use borrow.Author.Tests.{eqb-true, eqb-false}
+use Rattle.bits.specs.Bit.{bit}
+use Rattle.bits.proofs.Word.{bit-or, bit-shl-low, bit-shl-high, bit-above, ext}
+use Rattle.network.specs.Calls.{six}
+use Rattle.routing.specs.Loop.{pass}
+use Rattle.routing.specs.Stages.{Same}
+use Rattle.routing.specs.Lists.{wordOf, controlIn, butterflyWords, inverseWords, butterflyFrom, inverseFrom}
+use Rattle.routing.proofs.Words.{word-small, word-bit, butterfly-words, inverse-words}
+use Rattle.alone.specs.Asked.{crossed, straight, asked, stageAt, stagesOf, controlsFrom}
+
+power-bit : (s i : ℕ) → bit (2 ^ s) i ≡ cond (eqb i s) 1 0
+unfolding bit
+power-bit s i = go (eqb i s) refl
+  where
+    one : 2 ^ s ≡ 1 * 2 ^ s
+    one = sym (one-mul (2 ^ s))
+
+    beside : (i ≡ s → ⊥) → Dec (i < s) → bit (2 ^ s) i ≡ 0
+    beside n (yes l) = ap (λ (x : ℕ). bit x i) one ∙ bit-shl-low 1 s i l
+    beside n (no g) = let h : suc s ≤ i = omega arith in bit-above {w = suc s} i (pow-lt (omega arith)) h
+
+    go : (b : Bool) → eqb i s ≡ b → bit (2 ^ s) i ≡ cond b 1 0
+    go true t =
+        ap₂ bit one (eqb-true i s t ∙ sym (add-zero s)) ∙ bit-shl-high 1 s 0
+    go false t = beside (eqb-false i s t) (decLt i s)
+
+-- one switch more that passes
+or-pass :
+    (w s : ℕ) (c : ℕ → Bool)
+    → s < w
+    → bitOr (wordOf w c) (2 ^ s) ≡ wordOf w (λ t. cond (eqb t s) pass (c t))
+unfolding bit
+or-pass w s c h =
+    ext w (or-lt w (wordOf w c) (2 ^ s) (word-small w c) (pow-lt h)) (word-small w d)
+    (λ i l.
+    bit-or (wordOf w c) (2 ^ s) i
+    ∙ ap₂ max (word-bit w c i l) (power-bit s i)
+    ∙ go (c i) (eqb i s)
+    ∙ sym (word-bit w d i l))
+  where
+    d : ℕ → Bool
+    d t = cond (eqb t s) pass (c t)
+
+    go : (b q : Bool) → max (cond b 0 1) (cond q 1 0) ≡ cond (cond q pass b) 0 1
+    go true true = refl
+    go true false = refl
+    go false true = refl
+    go false false = refl
+
+pub asked-turn :
+    (w e a b : ℕ) (c : ℕ → Bool)
+    → crossed e a b < w
+    → bitOr (wordOf w c) (asked e a b) ≡ wordOf w (λ s. cond (straight e a b && eqb s (crossed e a b)) pass (c s))
+unfolding asked
+asked-turn w e a b c h = go (straight e a b)
+  where
+    go :
+        (t : Bool)
+        → bitOr (wordOf w c) (cond t (2 ^ crossed e a b) 0)
+        ≡ wordOf w (λ s. cond (t && eqb s (crossed e a b)) pass (c s))
+    go true = or-pass w (crossed e a b) c h
+    go false = or-zero-r (wordOf w c)
+
+-- the stages in the direction of travel
+
+butterfly-stage : (w n : ℕ) (c : ℕ → ℕ → Bool) (i : ℕ) → i < n → getD (butterflyWords w n c) i 0 ≡ wordOf w (c (n - 1 - i))
+unfolding butterflyWords
+butterfly-stage w zero c i h = absurd (omega arith)
+butterfly-stage w (suc n) c zero h = let q : n ≡ suc n - 1 - 0 = omega arith in ap (λ (e : ℕ). wordOf w (c e)) q
+butterfly-stage w (suc n) c (suc i) h =
+    let q : n - 1 - i ≡ suc n - 1 - suc i = omega arith in
+    butterfly-stage w n c i (omega arith) ∙ ap (λ (e : ℕ). wordOf w (c e)) q
+
+inverse-stage : (w e n : ℕ) (c : ℕ → ℕ → Bool) (i : ℕ) → i < n → getD (inverseWords w e n c) i 0 ≡ wordOf w (c (e + i))
+unfolding inverseWords
+inverse-stage w e zero c i h = absurd (omega arith)
+inverse-stage w e (suc n) c zero h = let q : e ≡ e + 0 = omega arith in ap (λ (d : ℕ). wordOf w (c d)) q
+inverse-stage w e (suc n) c (suc i) h =
+    let q : suc e + i ≡ e + suc i = omega arith in
+    inverse-stage w (suc e) n c i (omega arith) ∙ ap (λ (d : ℕ). wordOf w (c d)) q
+
+butterfly-length : (w n : ℕ) (c : ℕ → ℕ → Bool) → length (butterflyWords w n c) ≡ n
+unfolding butterflyWords
+butterfly-length w zero c = refl
+butterfly-length w (suc n) c = ap suc (butterfly-length w n c)
+
+inverse-length : (w e n : ℕ) (c : ℕ → ℕ → Bool) → length (inverseWords w e n c) ≡ n
+unfolding inverseWords
+inverse-length w e zero c = refl
+inverse-length w e (suc n) c = ap suc (inverse-length w (suc e) n c)
+
+pub length-stages : (rising : Bool) (n : ℕ) (c : ℕ → ℕ → Bool) → length (stagesOf rising n c) ≡ n
+unfolding stagesOf
+length-stages true n c = inverse-length (2 ^ n / 2) 0 n c
+length-stages false n c = butterfly-length (2 ^ n / 2) n c
+
+pub stage-word :
+    (rising : Bool) (n : ℕ) (c : ℕ → ℕ → Bool) (i : ℕ) {e v : ℕ}
+    → i < n
+    → e ≡ stageAt rising n i
+    → v ≡ wordOf (2 ^ n / 2) (c e)
+    → v ≡ getD (stagesOf rising n c) i 0
+unfolding stagesOf
+stage-word rising n c i h q f = f ∙ ap (λ (e : ℕ). wordOf (2 ^ n / 2) (c e)) q ∙ go rising
+  where
+    go : (b : Bool) → wordOf (2 ^ n / 2) (c (stageAt b n i)) ≡ getD (stagesOf b n c) i 0
+    go true =
+        let z : i ≡ 0 + i = omega arith in
+        ap (λ (e : ℕ). wordOf (2 ^ n / 2) (c e)) z ∙ sym (inverse-stage (2 ^ n / 2) 0 n c i h)
+    go false = sym (butterfly-stage (2 ^ n / 2) n c i h)
+
+-- so the six stages stand for their controls
+pub six-same : (rising : Bool) (n : ℕ) (c : ℕ → ℕ → Bool) → Same n c (controlsFrom rising n (six (stagesOf rising n c)))
+unfolding controlsFrom stagesOf butterflyFrom inverseFrom
+six-same rising n c e s i = go rising
+  where
+    -- the stages stand in front
+    front :
+        (b : Bool)
+        → stageAt b n e < n
+        → c e s ≡ controlIn (getD (stagesOf b n c) (stageAt b n e) 0) s
+        → c e s ≡ controlsFrom b n (six (stagesOf b n c)) e s
+    front b l q =
+        let r = length-stages b n c in
+        q
+        ∙ ap (λ (x : ℕ). controlIn x s)
+        (sym (List·getD-append (stagesOf b n c) (replicate (6 - length (stagesOf b n c)) 0) 0 (stageAt b n e) (omega arith)))
+
+    go : (b : Bool) → c e s ≡ controlsFrom b n (six (stagesOf b n c)) e s
+    go true = front true (i .at-stage) (inverse-words n c e s i)
+    go false =
+        let q : n - suc e ≡ n - 1 - e = omega arith in
+        front false (omega (arith, i .at-stage))
+        (butterfly-words n c e s i ∙ ap (λ (k : ℕ). controlIn (getD (butterflyWords (2 ^ n / 2) n c) k 0) s) q)

@@ -1,0 +1,134 @@
+-- The first controls of crate routing, as words: they are the first controls in the sense of demand 3. Assumes nothing.
+use mathlib.Core.Path.{_≡_, refl, sym, _∙_, ap, ap₂, subst}
+use mathlib.Core.Logic.{_⊎_, inl, inr}
+use mathlib.Core.Bool.{Bool, true, false, cond, true≢false}
+use mathlib.Core.List.{List, [], _∷_, _++_}
+use Prim.Native.Nat.{ℕ, zero, suc, _+_, _-_, _*_, _/_, _%_, _^_, _<_, _≤_}
+use native.Mathlib.Omega.{arith}
+use native.Mathlib.Decide.{decLt}
+use lib.Dec.{eqb}
+use lib.ListN.{length, getD, List·getD-append}
+use lib.Seq.{ext-getD, getD-append-add}
+use borrow.Author.Tests.{eqb-true, eqb-false, eq-eqb, ne-eqb}
+use Rattle.bits.specs.Bit.{bit}
+use Rattle.bits.proofs.Word.{bit-lt, bit-cases, ext}
+use Rattle.routing.specs.Loop.{pass, swap}
+use Rattle.routing.specs.Stages.{Stage, Butterfly, Inverse, exponent, InRange, Agree}
+use Rattle.routing.specs.Stages as place
+use Rattle.routing.specs.FirstControls.{IsFirst}
+use Rattle.routing.specs.Lists.{Words, ListPermutes, entry, wordOf, controlIn, butterflyWords, inverseWords, butterflyFrom, inverseFrom, wordsOf, fromWords, controlsOf, firstWords}
+use Rattle.routing.proofs.Words.{word-small, word-bit, butterfly-word, inverse-word, words-cong, first-words}
+use Rattle.permute.specs.Permutation.{Uses}
+use Rattle.permute.specs.First.{travelled, Controls}
+
+-- the words of a set of controls
+
+length-butterfly : (w k : ℕ) (c : ℕ → ℕ → Bool) → length (butterflyWords w k c) ≡ k
+unfolding butterflyWords
+length-butterfly w zero c = refl
+length-butterfly w (suc k) c = ap suc (length-butterfly w k c)
+
+length-inverse : (w e k : ℕ) (c : ℕ → ℕ → Bool) → length (inverseWords w e k c) ≡ k
+unfolding inverseWords
+length-inverse w e zero c = refl
+length-inverse w e (suc k) c = ap suc (length-inverse w (suc e) k c)
+
+-- where the words stand in the direction of travel
+module _ (L : ℕ) (k : Words) (b : length (k .butterfly) ≡ L) where
+  pub travelled-butterfly : (i : ℕ) → i < L → getD (travelled k) i 0 ≡ getD (k .butterfly) i 0
+  travelled-butterfly i h = List·getD-append (k .butterfly) (k .inverse) 0 i (omega arith)
+
+  pub travelled-inverse : (i : ℕ) → getD (travelled k) (L + i) 0 ≡ getD (k .inverse) i 0
+  travelled-inverse i =
+      ap (λ (n : ℕ). getD (travelled k) (n + i) 0) (sym b) ∙ getD-append-add (k .butterfly) (k .inverse) i 0
+
+pub butterfly-used : (L : ℕ) (c : ℕ → ℕ → Bool) → Uses L (butterflyWords (2 ^ L / 2) L c)
+butterfly-used L c = (length-butterfly (2 ^ L / 2) L c, small)
+  where
+    small : (i : ℕ) → i < L → getD (butterflyWords (2 ^ L / 2) L c) i 0 < 2 ^ (2 ^ L / 2)
+    small i l =
+        let e : i + suc (L - suc i) ≡ L = omega arith in
+        rw (butterfly-word (2 ^ L / 2) L c i (L - suc i) e) (word-small (2 ^ L / 2) (c (L - suc i)))
+
+pub inverse-used : (L : ℕ) (c : ℕ → ℕ → Bool) → Uses L (inverseWords (2 ^ L / 2) 0 L c)
+inverse-used L c = (
+  length-inverse (2 ^ L / 2) 0 L c,
+  λ i l. rw (inverse-word (2 ^ L / 2) 0 L c i i (omega arith) l) (word-small (2 ^ L / 2) (c i)),
+)
+
+pub words-used : (L : ℕ) (C : place.Controls) → Controls L (wordsOf L C)
+unfolding wordsOf
+words-used L C = (butterfly-used L (λ e. C (Butterfly e)), inverse-used L (λ e. C (Inverse e)))
+
+-- switch s of a word swaps exactly if its bit is zero
+
+control-zero : (x s : ℕ) → bit x s ≡ 0 → controlIn x s ≡ swap
+unfolding controlIn bit
+control-zero x s e = eq-eqb (x / 2 ^ s % 2) 0 e
+
+control-one : (x s : ℕ) → bit x s ≡ 1 → controlIn x s ≡ pass
+unfolding controlIn bit
+control-one x s e = ne-eqb (x / 2 ^ s % 2) 0 (λ z. omega arith)
+
+pub zero-control : (x s : ℕ) → controlIn x s ≡ swap → bit x s ≡ 0
+unfolding controlIn bit
+zero-control x s e = eqb-true (x / 2 ^ s % 2) 0 e
+
+pub one-control : (x s : ℕ) → controlIn x s ≡ pass → bit x s ≡ 1
+one-control x s e = by-cases (bit-cases x s)
+  where
+    by-cases : (bit x s ≡ 0) ⊎ (bit x s ≡ 1) → bit x s ≡ 1
+    by-cases (inl z) = absurd (true≢false (sym (control-zero x s z) ∙ e))
+    by-cases (inr o) = o
+
+pub same-control : (x y s : ℕ) → controlIn x s ≡ controlIn y s → bit x s ≡ bit y s
+same-control x y s e = by-cases (bit-cases x s)
+  where
+    by-cases : (bit x s ≡ 0) ⊎ (bit x s ≡ 1) → bit x s ≡ bit y s
+    by-cases (inl z) = z ∙ sym (zero-control y s (sym e ∙ control-zero x s z))
+    by-cases (inr o) = o ∙ sym (one-control y s (sym e ∙ control-one x s o))
+
+-- a word is the word of its switches
+word-back : (w : ℕ) {x : ℕ} → x < 2 ^ w → wordOf w (controlIn x) ≡ x
+word-back w {x} h = ext w (word-small w (controlIn x)) h (λ s l. at s l (bit-cases x s))
+  where
+    word-digit : (s : ℕ) → s < w → bit (wordOf w (controlIn x)) s ≡ cond (controlIn x s) 0 1
+    word-digit s l = unfold bit in word-bit w (controlIn x) s l
+
+    at : (s : ℕ) → s < w → (bit x s ≡ 0) ⊎ (bit x s ≡ 1) → bit (wordOf w (controlIn x)) s ≡ bit x s
+    at s l (inl z) = word-digit s l ∙ ap (λ (b : Bool). cond b 0 1) (control-zero x s z) ∙ sym z
+    at s l (inr o) = word-digit s l ∙ ap (λ (b : Bool). cond b 0 1) (control-one x s o) ∙ sym o
+
+-- controls that are used only where they may be are the words of their switches
+module _ (L : ℕ) (cs : List ℕ) (u : Uses L cs) where
+  pub butterfly-back : butterflyWords (2 ^ L / 2) L (butterflyFrom L cs) ≡ cs
+  unfolding butterflyFrom
+  butterfly-back =
+      let w = 2 ^ L / 2 in
+      ext-getD 0 (butterflyWords w L (butterflyFrom L cs)) cs (length-butterfly w L (butterflyFrom L cs) ∙ sym (u .0)) at
+    where
+      at : (i : ℕ) → i < length (butterflyWords (2 ^ L / 2) L (butterflyFrom L cs))
+          → getD (butterflyWords (2 ^ L / 2) L (butterflyFrom L cs)) i 0 ≡ getD cs i 0
+      at i h =
+          let l : i < L = omega (arith, length-butterfly (2 ^ L / 2) L (butterflyFrom L cs)) in
+          let e : i + suc (L - suc i) ≡ L = omega arith in
+          let n : L - suc (L - suc i) ≡ i = omega arith in
+          butterfly-word (2 ^ L / 2) L (butterflyFrom L cs) i (L - suc i) e
+          ∙ ap (λ (j : ℕ). wordOf (2 ^ L / 2) (controlIn (getD cs j 0))) n
+          ∙ word-back (2 ^ L / 2) (u .1 i l)
+
+  pub inverse-back : inverseWords (2 ^ L / 2) 0 L (inverseFrom cs) ≡ cs
+  unfolding inverseFrom
+  inverse-back =
+      let w = 2 ^ L / 2 in
+      ext-getD 0 (inverseWords w 0 L (inverseFrom cs)) cs (length-inverse w 0 L (inverseFrom cs) ∙ sym (u .0)) at
+    where
+      at : (i : ℕ) → i < length (inverseWords (2 ^ L / 2) 0 L (inverseFrom cs))
+          → getD (inverseWords (2 ^ L / 2) 0 L (inverseFrom cs)) i 0 ≡ getD cs i 0
+      at i h =
+          let l : i < L = omega (arith, length-inverse (2 ^ L / 2) 0 L (inverseFrom cs)) in
+          inverse-word (2 ^ L / 2) 0 L (inverseFrom cs) i i (omega arith) l ∙ word-back (2 ^ L / 2) (u .1 i l)
+
+pub words-back : (L : ℕ) (k : Words) → Controls L k → wordsOf L (fromWords L k) ≡ k
+unfolding wordsOf
+words-back L k u = λ i. record { butterfly = butterfly-back L (k .butterfly) (u .0) i; inverse = inverse-back L (k .inverse) (u .1) i }

@@ -1,0 +1,9 @@
+pub mod Sources
+pub mod Realised
+pub mod FirstWords
+pub mod Order
+pub mod OneNetwork
+pub mod Names
+pub mod Calls
+pub mod Demand3
+pub mod Answers

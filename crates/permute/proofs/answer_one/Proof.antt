@@ -1,0 +1,15 @@
+-- `permute::answer_one` meets its contract. Assumes nothing.
+use borrow.Author.Needs.{needs}
+use Rattle.permute.proofs.answer_one.Statement.{statement}
+use Rattle.permute.proofs.answer_one.Tie as tie
+use Rattle.permute.proofs.answer_one.Reads as reads
+use Rattle.permute.proofs.answer_one.Lts as lts
+
+returns : tie.Need-returns
+returns c = rw (c .if1 .taken)
+
+returns-2 : tie.Need-returns-2
+returns-2 c = rw (c .if1 .left)
+
+pub answer-one-spec : {M : Type 1} → statement M
+answer-one-spec = tie.close (tie.spec returns returns-2)

@@ -1,0 +1,62 @@
+-- `permute::route_butterfly` meets its contract. Assumes nothing.
+use mathlib.Core.Path.{_∙_}
+use Rattle.routing.specs.Lists.{butterflyFits, butterflyAlone}
+use Rattle.permute.proofs.Calls.{route-permutes, one-turned-back, one-answered}
+use borrow.Author.Needs.{needs}
+use Rattle.permute.proofs.route_butterfly.Statement.{statement}
+use Rattle.permute.proofs.route_butterfly.Tie as tie
+use Rattle.permute.proofs.route_butterfly.Reads as reads
+use Rattle.permute.proofs.route_butterfly.Lts as lts
+use Rattle.alone.proofs.butterfly_controls.Reads as butterfly-controls-reads
+use Rattle.bits.proofs.log_of.Reads as log-of-reads
+use Rattle.permute.proofs.answer_one.Reads as answer-one-reads
+use Rattle.permute.proofs.refusal.Reads as refusal-reads
+use Rattle.permute.proofs.refused_one.Reads as refused-one-reads
+
+refusal-requires : tie.Need-refusal-requires
+refusal-requires c κs = search needs
+
+refused-one-requires : tie.Need-refused-one-requires
+refused-one-requires c κs = search needs
+
+returns : tie.Need-returns
+returns c =
+    let b = c .before in
+    let a = b .before .before .before .args in
+    c .refused-one .ensures ∙ one-turned-back (a .width) (a .entries .now) butterflyFits butterflyAlone (b .before .refusal .ensures) (b .if1 .taken)
+
+log-of-requires : tie.Need-log-of-requires
+log-of-requires c κs = search needs
+
+cast-butterfly-controls : tie.Need-cast-butterfly-controls
+cast-butterfly-controls c = search needs
+
+butterfly-controls-requires : tie.Need-butterfly-controls-requires
+butterfly-controls-requires c κs =
+    let b = c .before in
+    let a = b .before .before .before .args in
+    route-permutes (a .width) (a .entries .now) (b .before .refusal .ensures) (b .if1 .left) (c .log-of .ensures)
+
+answer-one-requires : tie.Need-answer-one-requires
+answer-one-requires c κs = search needs
+
+returns-2 : tie.Need-returns-2
+returns-2 c =
+    let b = c .before .before .before in
+    let a = b .before .before .before .args in
+    let f = c .before .butterfly-controls .ensures in
+    c .answer-one .ensures ∙ one-answered (a .width) (a .entries .now) butterflyFits butterflyAlone (b .before .refusal .ensures) (b .if1 .left) (c .before .before .log-of .ensures)
+    (f .0) (f .1)
+
+pub route-butterfly-spec : {M : Type 1} → statement M
+route-butterfly-spec =
+    tie.close
+    (tie.spec
+    refusal-requires
+    refused-one-requires
+    returns
+    log-of-requires
+    cast-butterfly-controls
+    butterfly-controls-requires
+    answer-one-requires
+    returns-2)

@@ -1,0 +1,50 @@
+-- What the calls on permutations answer. Assumes nothing.
+use mathlib.Core.Path.{_≡_}
+use mathlib.Core.Bool.{Bool, not, cond}
+use mathlib.Core.List.{List, [], _∷_}
+use Prim.Native.Nat.{ℕ}
+use lib.Dec.{eqb}
+use lib.ListN.{length, take}
+use Rattle.bits.specs.Refusal.{logOf, accepted, lowest}
+use Rattle.network.specs.Calls.{controls}
+use Rattle.routing.specs.Lists.{Words, firstWords}
+use Rattle.permute.specs.declared.Routed.{Routed}
+use Rattle.permute.specs.declared.RoutedOne.{RoutedOne}
+use Rattle.permute.specs.Permutation.{namesOnce}
+use Rattle.permute.specs.First.{First}
+
+-- 'Calls turned back': 1, the width; 4, "order not w long"; 5, "order entry w or above, or repeated"
+abbrev pub routeConditions : ℕ → List ℕ → List (ℕ × Bool)
+routeConditions w entries = (1, not (accepted w)) ∷ (4, not (eqb (length entries) w)) ∷ (5, not (namesOnce w entries)) ∷ []
+
+unfoldable pub routeRefusal : ℕ → List ℕ → ℕ
+routeRefusal w entries = lowest (routeConditions w entries)
+
+-- the first controls for both networks, or zeros
+unfoldable pub routeAnswer : ℕ → List ℕ → Routed
+routeAnswer w entries =
+    let k = firstWords (logOf w) entries in
+    cond (eqb (routeRefusal w entries) 0)
+    (record { refusal = 0; butterfly = controls (k .butterfly); inverse = controls (k .inverse) })
+    (record { refusal = routeRefusal w entries; butterfly = controls []; inverse = controls [] })
+
+-- the stages in use of an answer
+abbrev pub stagesIn : ℕ → Routed → Words
+stagesIn L r = record { butterfly = take L (r .butterfly .stages); inverse = take L (r .inverse .stages) }
+
+-- an answer that is not a refusal holds the first controls
+abbrev pub AnswersFirst : ℕ → List ℕ → Routed → Type 0
+AnswersFirst w entries r = r .refusal ≡ 0 → First (logOf w) (stagesIn (logOf w) r) entries
+
+-- One network: 1, 4, 5 as above; 6, "order not realised by the one network named". `fits` says whether it is, `alone` gives its controls.
+abbrev pub oneConditions : (ℕ → List ℕ → Bool) → ℕ → List ℕ → List (ℕ × Bool)
+oneConditions fits w entries =
+    (1, not (accepted w)) ∷ (4, not (eqb (length entries) w)) ∷ (5, not (namesOnce w entries)) ∷ (6, not (fits (logOf w) entries)) ∷ []
+
+unfoldable pub oneRefusal : (ℕ → List ℕ → Bool) → ℕ → List ℕ → ℕ
+oneRefusal fits w entries = lowest (oneConditions fits w entries)
+
+unfoldable pub oneAnswer : (ℕ → List ℕ → Bool) → (ℕ → List ℕ → List ℕ) → ℕ → List ℕ → RoutedOne
+oneAnswer fits alone w entries =
+    cond (eqb (oneRefusal fits w entries) 0) (record { refusal = 0; controls = controls (alone (logOf w) entries) })
+    (record { refusal = oneRefusal fits w entries; controls = controls [] })

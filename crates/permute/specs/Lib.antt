@@ -1,0 +1,4 @@
+pub mod Permutation
+pub mod First
+pub mod Calls
+pub mod Demand3
