@@ -9,17 +9,18 @@
  *
  * Every function here is answered for every input: there is no number that it
  * may not be given, and a pointer need only point to as many numbers as its
- * declaration says. A call that breaks a limit is refused, every other call is
- * carried out, and each call ends. No function keeps state or allocates. None
- * touches any memory but what its arguments point to, and where that is const
- * it is only read.
+ * declaration, or the length after it, says. With length 0 it may be null. A
+ * call that breaks a limit is refused, every other call is carried out, and
+ * each call ends. No function keeps state or allocates. None touches any memory
+ * but what its arguments point to, and where that is const it is only read.
  *
- * Later functions (routing, packing, register unit) are added to this header;
- * a refusal number, once given, keeps its meaning.
+ * Later functions (packing, register unit) are added to this header; a refusal
+ * number, once given, keeps its meaning.
  */
 #ifndef TIGBAYON_H
 #define TIGBAYON_H
 
+#include <stddef.h>
 #include <stdint.h>
 
 #ifdef __cplusplus
@@ -31,10 +32,13 @@ extern "C" {
  * apply to a call, the lowest number is answered.
  */
 enum TbRefusal {
-    TB_CARRIED_OUT = 0,   /* not refused */
-    TB_REFUSAL_WIDTH = 1, /* width not 8, 16, 32, 64 */
-    TB_REFUSAL_ABOVE = 2, /* word or mask has a one at bit w or above */
-    TB_REFUSAL_UNUSED = 3 /* a one in an unused control bit or stage */
+    TB_CARRIED_OUT = 0,         /* not refused */
+    TB_REFUSAL_WIDTH = 1,       /* width not 8, 16, 32, 64 */
+    TB_REFUSAL_ABOVE = 2,       /* word or mask has a one at bit w or above */
+    TB_REFUSAL_UNUSED = 3,      /* a one in an unused control bit or stage */
+    TB_REFUSAL_LENGTH = 4,      /* permutation not w long */
+    TB_REFUSAL_ENTRY = 5,       /* permutation entry w or above, or repeated */
+    TB_REFUSAL_NOT_REALISED = 6 /* permutation not realised by the one network named */
 };
 
 /* The answer of tb_gather, tb_scatter and tb_group. */
@@ -82,7 +86,7 @@ typedef struct {
     uint64_t word;   /* the result; 0 if the call is refused */
 } TbCarried;
 
-/* The answer of tb_decode: controls for both networks. */
+/* The answer of tb_decode and tb_route: controls for both networks. */
 typedef struct {
     uint8_t refusal;       /* an enum TbRefusal */
     uint32_t butterfly[6]; /* for tb_butterfly; zeros if the call is refused */
@@ -114,6 +118,45 @@ TbCarried tb_inverse(uint32_t width, const uint32_t stages[6], uint64_t word);
  * Refusals: TB_REFUSAL_WIDTH, TB_REFUSAL_ABOVE.
  */
 TbControls2 tb_decode(uint32_t width, uint64_t mask);
+
+/*
+ * Routing. A permutation of width w has w entries and names each bit below w
+ * once: entry p is the bit that place p of the result takes. Controls realise
+ * it if they bring every bit of every word to its place. In each call here,
+ * `permutation` points to `length` entries.
+ */
+
+/* The answer of tb_route_butterfly and tb_route_inverse. */
+typedef struct {
+    uint8_t refusal;    /* an enum TbRefusal */
+    uint32_t stages[6]; /* for the network named; zeros if the call is refused */
+} TbControls1;
+
+/*
+ * Route: the first controls by which tb_butterfly and then tb_inverse, on its
+ * result, realise the permutation; there always are some. Any others that do
+ * come later: at the first switch where the two sets differ, going through the
+ * butterfly's stages and then the inverse's, each from switch 0 up, the first
+ * set passes.
+ * Refusals: TB_REFUSAL_WIDTH, TB_REFUSAL_LENGTH, TB_REFUSAL_ENTRY.
+ */
+TbControls2 tb_route(uint32_t width, const uint8_t *permutation, size_t length);
+
+/*
+ * Route through the butterfly alone: the controls by which tb_butterfly
+ * realises the permutation. There is at most one such set; if there is none,
+ * the call is refused by TB_REFUSAL_NOT_REALISED.
+ * Refusals: TB_REFUSAL_WIDTH, TB_REFUSAL_LENGTH, TB_REFUSAL_ENTRY,
+ * TB_REFUSAL_NOT_REALISED.
+ */
+TbControls1 tb_route_butterfly(uint32_t width, const uint8_t *permutation, size_t length);
+
+/*
+ * Route through the inverse alone: the same for tb_inverse.
+ * Refusals: TB_REFUSAL_WIDTH, TB_REFUSAL_LENGTH, TB_REFUSAL_ENTRY,
+ * TB_REFUSAL_NOT_REALISED.
+ */
+TbControls1 tb_route_inverse(uint32_t width, const uint8_t *permutation, size_t length);
 
 #ifdef __cplusplus
 }

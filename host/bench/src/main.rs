@@ -6,6 +6,7 @@
 mod bmi2;
 mod masks;
 mod networks;
+mod routing;
 mod timing;
 
 use std::env;
@@ -17,13 +18,16 @@ const WIDTH: u32 = 64;
 /// A bench runs the call of its name.
 type Bench = (&'static str, fn(&str));
 
-const BENCHES: [Bench; 6] = [
+const BENCHES: [Bench; 9] = [
     ("butterfly", networks::butterfly),
     ("inverse", networks::inverse),
     ("decode", networks::decode),
     ("gather", masks::gather),
     ("scatter", masks::scatter),
     ("group", masks::group),
+    ("route", routing::route),
+    ("route_butterfly", routing::route_butterfly),
+    ("route_inverse", routing::route_inverse),
 ];
 
 fn main() -> ExitCode {

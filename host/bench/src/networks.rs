@@ -5,7 +5,8 @@ use crate::WIDTH;
 use conformance::samples::Random;
 use tigbayon::{Controls, Decoded, Refusal};
 
-const STAGES: usize = 6;
+/// How many stages a network has.
+pub const STAGES: usize = 6;
 
 /// For distances 1, 2, 4, .., 32, the lower bit of every pair.
 const PAIRS: [u64; STAGES] = [
@@ -75,7 +76,7 @@ fn network<const RISING: bool>(
 }
 
 /// The base-two logarithm of a stage's distance.
-fn log_distance<const RISING: bool>(stage: usize) -> usize {
+pub fn log_distance<const RISING: bool>(stage: usize) -> usize {
     if RISING {
         stage
     } else {

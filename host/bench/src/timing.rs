@@ -72,7 +72,7 @@ impl<I, O: Debug + PartialEq> Contest<I, O> {
         let medians: Vec<f64> = times.into_iter().map(median).collect();
         for ((name, _), time) in zip(&self.contenders, &medians) {
             let ratio = medians[0] / time;
-            println!("{call:<10} {name:<34} {time:>8.2} {ratio:>13.2}");
+            println!("{call:<16} {name:<34} {time:>8.2} {ratio:>13.2}");
         }
     }
 }
@@ -80,7 +80,7 @@ impl<I, O: Debug + PartialEq> Contest<I, O> {
 /// Prints what stands over the lines.
 pub fn print_heading() {
     let [call, name, time, ratio] = ["call", "by", "ns/call", "library/this"];
-    println!("{call:<10} {name:<34} {time:>8} {ratio:>13}");
+    println!("{call:<16} {name:<34} {time:>8} {ratio:>13}");
 }
 
 /// The average nanoseconds of one call, over all the inputs.

@@ -3,19 +3,40 @@
 use crate::controls::Controls;
 use model::decoder::Decoded;
 use model::refusal::Answer;
+use model::routing::Routed;
 use std::fmt::Debug;
-use tigbayon::{Refusal, TbCarried, TbControls2, TbGathered};
+use tigbayon::{Refusal, TbCarried, TbControls1, TbControls2, TbGathered};
 
-type Inputs<X, A> = fn(u32, X, u64) -> A;
+/// What a call goes by: a mask or controls, which are handed over, or a
+/// permutation, which is lent.
+pub trait By {
+    /// It, as the call takes it.
+    type Input<'a>: Copy + Debug;
+}
 
-/// A call of a width, of a mask or controls (`X`), and of a word: as the
-/// archive exports it, as the wrapper offers it, and as the model defines it.
-pub struct Call<X, R = u64> {
+impl By for u64 {
+    type Input<'a> = u64;
+}
+
+impl By for Controls {
+    type Input<'a> = Controls;
+}
+
+impl By for [u8] {
+    type Input<'a> = &'a [u8];
+}
+
+type Inputs<X, W, A> = for<'a> fn(u32, <X as By>::Input<'a>, W) -> A;
+
+/// A call of a width, of a mask, controls or a permutation (`X`), and of a
+/// word (`W`, which is `()` where there is none): as the archive exports it, as
+/// the wrapper offers it, and as the model defines it.
+pub struct Call<X: By + ?Sized, R = u64, W = u64> {
     /// The call's name.
     pub name: &'static str,
-    raw: Inputs<X, Answer<R>>,
-    wrapped: Inputs<X, Result<R, Refusal>>,
-    model: Inputs<X, Answer<R>>,
+    raw: Inputs<X, W, Answer<R>>,
+    wrapped: Inputs<X, W, Result<R, Refusal>>,
+    model: Inputs<X, W, Answer<R>>,
 }
 
 /// Gather.
@@ -58,18 +79,52 @@ pub const INVERSE: Call<Controls> = Call {
     model: |width, controls, word| model::network::inverse(width, &controls, word),
 };
 
-/// The decoder, of a width and a mask; the mask stands in the word's place.
-pub const DECODE: Call<(), Decoded> = Call {
+/// The decoder.
+pub const DECODE: Call<u64, Decoded, ()> = Call {
     name: "decode",
-    raw: |width, (), mask| decoded(tigbayon::tb_decode(width, mask)),
-    wrapped: |width, (), mask| {
+    raw: |width, mask, ()| decoded(tigbayon::tb_decode(width, mask)),
+    wrapped: |width, mask, ()| {
         let decoded = tigbayon::decode(width, mask)?;
         Ok(Decoded {
             butterfly: decoded.butterfly.stages,
             inverse: decoded.inverse.stages,
         })
     },
-    model: |width, (), mask| model::decoder::decode(width, mask),
+    model: |width, mask, ()| model::decoder::decode(width, mask),
+};
+
+/// Routing through both networks.
+pub const ROUTE: Call<[u8], Routed, ()> = Call {
+    name: "route",
+    raw: |width, permutation, ()| routed(tigbayon::tb_route(width, permutation)),
+    wrapped: |width, permutation, ()| {
+        let routed = tigbayon::route(width, permutation)?;
+        Ok(Routed {
+            butterfly: routed.butterfly.stages,
+            inverse: routed.inverse.stages,
+        })
+    },
+    model: |width, permutation, ()| model::routing::route(width, permutation),
+};
+
+/// Routing through the butterfly alone.
+pub const ROUTE_BUTTERFLY: Call<[u8], Controls, ()> = Call {
+    name: "route_butterfly",
+    raw: |width, permutation, ()| controls(tigbayon::tb_route_butterfly(width, permutation)),
+    wrapped: |width, permutation, ()| {
+        tigbayon::route_butterfly(width, permutation).map(|controls| controls.stages)
+    },
+    model: |width, permutation, ()| model::routing::route_butterfly(width, permutation),
+};
+
+/// Routing through the inverse alone.
+pub const ROUTE_INVERSE: Call<[u8], Controls, ()> = Call {
+    name: "route_inverse",
+    raw: |width, permutation, ()| controls(tigbayon::tb_route_inverse(width, permutation)),
+    wrapped: |width, permutation, ()| {
+        tigbayon::route_inverse(width, permutation).map(|controls| controls.stages)
+    },
+    model: |width, permutation, ()| model::routing::route_inverse(width, permutation),
 };
 
 /// Every call of width, mask and word.
@@ -78,11 +133,19 @@ pub const MASK_CALLS: [Call<u64>; 3] = [GATHER, SCATTER, GROUP];
 /// Both networks.
 pub const NETWORKS: [Call<Controls>; 2] = [BUTTERFLY, INVERSE];
 
-impl<X: Copy + Debug, R: Copy + Debug + PartialEq> Call<X, R> {
+/// Routing through one network, in the same order.
+pub const ROUTE_ONE: [Call<[u8], Controls, ()>; 2] = [ROUTE_BUTTERFLY, ROUTE_INVERSE];
+
+impl<X, R, W> Call<X, R, W>
+where
+    X: By + ?Sized,
+    R: Copy + Debug + PartialEq,
+    W: Copy + Debug,
+{
     /// Makes the call all three ways, panics unless they agree in every part
     /// of the answer, and hands the answer back.
-    pub fn check(&self, width: u32, by: X, word: u64) -> Answer<R> {
-        let input = || format!("{} {width} {by:x?} {word:x}", self.name);
+    pub fn check(&self, width: u32, by: X::Input<'_>, word: W) -> Answer<R> {
+        let input = || format!("{} {width} {by:x?} {word:x?}", self.name);
         let library = (self.raw)(width, by, word);
         let model = (self.model)(width, by, word);
         assert!(
@@ -104,7 +167,7 @@ impl<X: Copy + Debug, R: Copy + Debug + PartialEq> Call<X, R> {
     }
 
     /// The checked result of a call that must be carried out.
-    pub fn result(&self, width: u32, by: X, word: u64) -> R {
+    pub fn result(&self, width: u32, by: X::Input<'_>, word: W) -> R {
         let answer = self.check(width, by, word);
         assert_eq!(answer.refusal, 0, "{} is carried out", self.name);
         answer.result
@@ -112,7 +175,7 @@ impl<X: Copy + Debug, R: Copy + Debug + PartialEq> Call<X, R> {
 }
 
 /// Checks these calls on one input.
-pub fn check_all<X: Copy + Debug>(calls: &[Call<X>], width: u32, by: X, word: u64) {
+pub fn check_all<X: By>(calls: &[Call<X>], width: u32, by: X::Input<'_>, word: u64) {
     for call in calls {
         call.check(width, by, word);
     }
@@ -120,7 +183,12 @@ pub fn check_all<X: Copy + Debug>(calls: &[Call<X>], width: u32, by: X, word: u6
 
 /// The checked controls of a mask that must be accepted.
 pub fn decode(width: u32, mask: u64) -> Decoded {
-    DECODE.result(width, (), mask)
+    DECODE.result(width, mask, ())
+}
+
+/// The checked controls of a permutation that must be accepted.
+pub fn route(width: u32, permutation: &[u8]) -> Routed {
+    ROUTE.result(width, permutation, ())
 }
 
 fn gathered(TbGathered { refusal, word }: TbGathered) -> Answer<u64> {
@@ -140,5 +208,20 @@ fn decoded(answer: TbControls2) -> Answer<Decoded> {
         inverse,
     } = answer;
     let result = Decoded { butterfly, inverse };
+    Answer { refusal, result }
+}
+
+fn routed(answer: TbControls2) -> Answer<Routed> {
+    let TbControls2 {
+        refusal,
+        butterfly,
+        inverse,
+    } = answer;
+    let result = Routed { butterfly, inverse };
+    Answer { refusal, result }
+}
+
+fn controls(TbControls1 { refusal, stages }: TbControls1) -> Answer<Controls> {
+    let result = stages;
     Answer { refusal, result }
 }

@@ -2,6 +2,8 @@
 
 pub mod call;
 pub mod controls;
+pub mod permutations;
+pub mod refusals;
 pub mod samples;
 
 /// The accepted widths.

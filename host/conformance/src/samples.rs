@@ -1,7 +1,11 @@
-//! Random and structured words and controls, the same in every run.
+//! Random and structured words, controls and permutations, the same in every
+//! run.
 
 use crate::controls::{stages, Controls};
 use crate::low_ones;
+use crate::permutations::{identity, product, realised, rotation, swap, FIXED};
+use model::network;
+use model::refusal::Answer;
 
 /// The seed of every test's samples.
 pub const SEED: u64 = 0x5449_4742_4159_4F4E;
@@ -28,6 +32,11 @@ impl Random {
     /// A random number below `bound`.
     pub fn below(&mut self, bound: u32) -> u32 {
         (self.word() % u64::from(bound)) as u32
+    }
+
+    /// One of these.
+    fn pick<T: Copy>(&mut self, choices: &[T]) -> T {
+        choices[self.below(choices.len() as u32) as usize]
     }
 }
 
@@ -69,6 +78,57 @@ fn controls(random: &mut Random, shape: Shape, width: u32) -> Controls {
         *stage = word(random, shape, width / 2) as u32;
     }
     controls
+}
+
+/// A kind of permutation, made for a width.
+type PermutationShape = fn(&mut Random, u32) -> Vec<u8>;
+
+const PERMUTATION_SHAPES: [PermutationShape; 6] = [
+    |random, width| random.pick(&FIXED)(width),
+    |random, width| rotation(width, random.below(width)),
+    |random, width| swap(width, random.below(width), random.below(width)),
+    random_permutation,
+    |random, width| by_network(random, width, network::butterfly),
+    |random, width| by_network(random, width, network::inverse),
+];
+
+/// A permutation, any of them alike.
+pub fn random_permutation(random: &mut Random, width: u32) -> Vec<u8> {
+    let mut permutation = identity(width);
+    for place in 1..width {
+        permutation.swap(place as usize, random.below(place + 1) as usize);
+    }
+    permutation
+}
+
+/// What one network, on controls of some shape, makes of the bits.
+fn by_network(
+    random: &mut Random,
+    width: u32,
+    network: fn(u32, &Controls, u64) -> Answer<u64>,
+) -> Vec<u8> {
+    let shape = random.pick(&SHAPES);
+    let controls = controls(random, shape, width);
+    realised(width, |word| network(width, &controls, word).result)
+}
+
+/// Hands `rounds` products of each pair of shapes of permutations, each with a
+/// random word, to `test`, and answers how many that were.
+pub fn for_each_permutation(width: u32, rounds: u32, mut test: impl FnMut(&[u8], u64)) -> u32 {
+    let mut random = Random::default();
+    let mut count = 0;
+    for first in PERMUTATION_SHAPES {
+        for second in PERMUTATION_SHAPES {
+            for _ in 0..rounds {
+                let one = first(&mut random, width);
+                let then = second(&mut random, width);
+                let word = random.word() & low_ones(width);
+                test(&product(&one, &then), word);
+                count += 1;
+            }
+        }
+    }
+    count
 }
 
 /// Hands `rounds` masks and words of each pair of shapes to `test`, and

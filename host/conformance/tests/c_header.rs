@@ -4,7 +4,7 @@
 use std::mem::{offset_of, size_of};
 use std::path::Path;
 use std::process::Command;
-use tigbayon::{Refusal, TbCarried, TbControls2, TbGathered};
+use tigbayon::{Refusal, TbCarried, TbControls1, TbControls2, TbGathered};
 
 const CRATE: &str = env!("CARGO_MANIFEST_DIR");
 
@@ -41,6 +41,7 @@ fn layouts() -> String {
     }
     layout!(TbGathered, refusal, word)
         + &layout!(TbCarried, refusal, word)
+        + &layout!(TbControls1, refusal, stages)
         + &layout!(TbControls2, refusal, butterfly, inverse)
 }
 
@@ -59,7 +60,19 @@ fn expected() -> String {
         butterfly 0 80\n\
         butterfly 3 0\n\
         inverse 0 1a\n\
-        inverse 1 0\n";
+        inverse 1 0\n\
+        route 0 f f f 0 0 0 0 0 0 0 0 0\n\
+        route 0 d f f 0 0 0 b f d 0 0 0\n\
+        route_butterfly 6 0 0 0 0 0 0\n\
+        route_inverse 6 0 0 0 0 0 0\n\
+        route_butterfly 0 e f f 0 0 0\n\
+        route_inverse 0 f f e 0 0 0\n\
+        route 1 0 0 0 0 0 0 0 0 0 0 0 0\n\
+        route 5 0 0 0 0 0 0 0 0 0 0 0 0\n\
+        route 4 0 0 0 0 0 0 0 0 0 0 0 0\n\
+        route_butterfly 4 0 0 0 0 0 0\n\
+        route_inverse 4 0 0 0 0 0 0\n\
+        permutation 0 4 2 3 1 5 6 7\n";
     format!("{}numbers 0{}\n{answers}", layouts(), numbers.concat())
 }
 

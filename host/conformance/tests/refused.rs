@@ -1,27 +1,9 @@
 //! Damaged inputs get the lowest number that applies, and zeros for the rest.
 
-use conformance::call::{Call, DECODE, MASK_CALLS, NETWORKS};
+use conformance::call::{DECODE, MASK_CALLS, NETWORKS};
 use conformance::controls::{pass_all, stages, Controls};
+use conformance::refusals::{assert_number, other_widths};
 use conformance::{low_ones, WIDTHS};
-use model::refusal::Answer;
-use std::fmt::Debug;
-
-/// Widths above 130, among them some that a narrower integer would cut to an
-/// accepted one.
-const HUGE_WIDTHS: [u32; 12] = [
-    256,
-    256 + 8,
-    256 + 64,
-    1 << 16,
-    (1 << 16) + 16,
-    (1 << 24) + 32,
-    1 << 31,
-    (1 << 31) + 64,
-    u32::MAX - 64,
-    u32::MAX - 8,
-    u32::MAX - 1,
-    u32::MAX,
-];
 
 /// Words and masks below, at and above each accepted width.
 const WORDS: [u64; 14] = [
@@ -53,28 +35,6 @@ const CONTROLS: [Controls; 9] = [
     [0, 1 << 31, 0, 0, 0, 0],
     [0, 0, 0, 0, 0, 1 << 31],
 ];
-
-/// Checks that the calls are refused by this number, or carried out if it is 0.
-fn assert_number<X, R>(calls: &[Call<X, R>], number: u8, width: u32, by: X, word: u64)
-where
-    X: Copy + Debug,
-    R: Copy + Debug + Default + PartialEq,
-{
-    for call in calls {
-        let answer = call.check(width, by, word);
-        let input = || format!("{} {width} {by:x?} {word:x}", call.name);
-        assert_eq!(answer.refusal, number, "{}", input());
-        if number != 0 {
-            assert_eq!(answer, Answer::refused(number), "{}", input());
-        }
-    }
-}
-
-/// Widths that are not accepted.
-fn other_widths() -> impl Iterator<Item = u32> {
-    let widths = (0..=130).chain(HUGE_WIDTHS);
-    widths.filter(|width| !WIDTHS.contains(width))
-}
 
 /// 2 if the word has a one at bit w or above, else the other number.
 fn above_or(width: u32, word: u64, other: u8) -> u8 {
@@ -109,7 +69,7 @@ fn unused(width: u32, controls: Controls) -> u8 {
 fn every_other_width_is_refusal_1_whatever_the_rest() {
     for width in other_widths() {
         for word in WORDS {
-            assert_number(&[DECODE], 1, width, (), word);
+            assert_number(&[DECODE], 1, width, word, ());
             for mask in WORDS {
                 assert_number(&MASK_CALLS, 1, width, mask, word);
             }
@@ -124,7 +84,7 @@ fn every_other_width_is_refusal_1_whatever_the_rest() {
 fn accepted_widths_are_refused_by_range_and_then_by_unused_controls() {
     for width in WIDTHS {
         for word in WORDS {
-            assert_number(&[DECODE], above_or(width, word, 0), width, (), word);
+            assert_number(&[DECODE], above_or(width, word, 0), width, word, ());
             for mask in WORDS {
                 let number = above_or(width, mask | word, 0);
                 assert_number(&MASK_CALLS, number, width, mask, word);
@@ -149,7 +109,7 @@ fn each_single_bit_above_the_width_is_refusal_2() {
                 assert_number(&MASK_CALLS, 2, width, inside, word);
                 assert_number(&MASK_CALLS, 2, width, word, inside);
                 assert_number(&MASK_CALLS, 2, width, word, word);
-                assert_number(&[DECODE], 2, width, (), word);
+                assert_number(&[DECODE], 2, width, word, ());
                 for controls in CONTROLS {
                     assert_number(&NETWORKS, 2, width, controls, word);
                 }
@@ -165,7 +125,7 @@ fn each_single_bit_below_the_width_is_accepted() {
             assert_number(&MASK_CALLS, 0, width, 1 << p, low_ones(width));
             assert_number(&MASK_CALLS, 0, width, low_ones(width), 1 << p);
             assert_number(&NETWORKS, 0, width, pass_all(width), 1 << p);
-            assert_number(&[DECODE], 0, width, (), 1 << p);
+            assert_number(&[DECODE], 0, width, 1 << p, ());
         }
     }
 }

@@ -1,6 +1,7 @@
 //! Paper 01's reel of examples.
 
-use conformance::call::{decode, BUTTERFLY, GATHER, GROUP, SCATTER};
+use conformance::call::{decode, route, BUTTERFLY, GATHER, GROUP, ROUTE_ONE, SCATTER};
+use model::refusal::Answer;
 
 #[test]
 fn row_1_gather() {
@@ -32,6 +33,31 @@ fn row_5_decode_of_no_mark() {
 #[test]
 fn row_6_butterfly_on_zeros() {
     assert_eq!(BUTTERFLY.result(8, [0; 6], 0x01), 0x80);
+}
+
+#[test]
+fn row_7_route_of_the_reversal() {
+    let routed = route(8, &[7, 6, 5, 4, 3, 2, 1, 0]);
+    assert_eq!(routed.butterfly, [0xF, 0xF, 0xF, 0, 0, 0]);
+    assert_eq!(routed.inverse, [0; 6]);
+}
+
+/// The order of rows 8 and 9.
+const BITS_1_AND_4_SWAPPED: [u8; 8] = [0, 4, 2, 3, 1, 5, 6, 7];
+
+#[test]
+fn row_8_route_of_a_swap() {
+    let routed = route(8, &BITS_1_AND_4_SWAPPED);
+    assert_eq!(routed.butterfly, [0xD, 0xF, 0xF, 0, 0, 0]);
+    assert_eq!(routed.inverse, [0xB, 0xF, 0xD, 0, 0, 0]);
+}
+
+#[test]
+fn row_9_either_network_alone() {
+    for routing in ROUTE_ONE {
+        let answer = routing.check(8, &BITS_1_AND_4_SWAPPED, ());
+        assert_eq!(answer, Answer::refused(6));
+    }
 }
 
 /// Demand page: "It takes 12-bit colour out of 16-bit words".

@@ -1,7 +1,7 @@
 //! The decoder from a mask to controls ("Decoder" of paper 01).
 
-use crate::bits::{bits_of, marked, word_of};
-use crate::network::{butterfly_distances, Controls};
+use crate::bits::{bits_of, marked};
+use crate::network::{butterfly_distances, controls_of, Controls};
 use crate::refusal::{has_one_at_or_above, is_width, Answer, ABOVE, WIDTH};
 
 /// "One decoder call answers both sets."
@@ -73,13 +73,4 @@ pub fn turned_left(steps: usize, mut bits: Vec<bool>) -> Vec<bool> {
         bits[0] = !bits[0];
     }
     bits
-}
-
-/// "Unused columns and bits are zero."
-fn controls_of(stages: &[Vec<bool>]) -> Controls {
-    let mut controls = Controls::default();
-    for (stage, bits) in controls.iter_mut().zip(stages) {
-        *stage = word_of(bits) as u32;
-    }
-    controls
 }

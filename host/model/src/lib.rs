@@ -3,10 +3,12 @@
 //! Each definition goes bit by bit and follows the sentence of paper 01 that
 //! it quotes. Nothing here is meant to be fast, and nothing is shared with the
 //! library. The papers' "line" is a bit here, their "column" a stage, their
-//! "settings" are controls.
+//! "settings" are controls, their "order" is a permutation.
 
 pub mod bits;
 pub mod decoder;
 pub mod gather;
 pub mod network;
+pub mod permutation;
 pub mod refusal;
+pub mod routing;

@@ -35,9 +35,18 @@ pub(crate) fn butterfly_distances(width: usize) -> Vec<usize> {
 }
 
 /// "The inverse has distances 1, 2, 4, .. up to w/2."
-fn inverse_distances(width: usize) -> Vec<usize> {
+pub(crate) fn inverse_distances(width: usize) -> Vec<usize> {
     let stages = width.ilog2();
     (0..stages).map(|i| 2_usize.pow(i)).collect()
+}
+
+/// "Unused columns and bits are zero."
+pub(crate) fn controls_of(stages: &[Vec<bool>]) -> Controls {
+    let mut controls = Controls::default();
+    for (stage, bits) in controls.iter_mut().zip(stages) {
+        *stage = word_of(bits) as u32;
+    }
+    controls
 }
 
 /// "At distance d, switch j×d + t (t below d) joins lines 2×j×d + t and

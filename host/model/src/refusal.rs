@@ -8,6 +8,12 @@ pub const WIDTH: u8 = 1;
 pub const ABOVE: u8 = 2;
 /// "a one in an unused setting bit or column"
 pub const UNUSED: u8 = 3;
+/// "order not w long"
+pub const LENGTH: u8 = 4;
+/// "order entry w or above, or repeated"
+pub const ENTRY: u8 = 5;
+/// "order not realised by the one network named"
+pub const NOT_REALISED: u8 = 6;
 
 /// The answer of a call.
 #[derive(Clone, Copy, Debug, PartialEq, Eq)]

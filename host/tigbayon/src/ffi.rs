@@ -1,6 +1,6 @@
 //! The declarations of include/tigbayon.h.
 
-use crate::{Controls, Decoded, Refusal};
+use crate::{Controls, Decoded, Refusal, Routed};
 
 /// The answer of gather, scatter and group.
 #[repr(C)]
@@ -22,7 +22,18 @@ pub struct TbCarried {
     pub word: u64,
 }
 
-/// The answer of the decoder.
+/// Controls for one network: the answer of its routing.
+#[repr(C)]
+#[derive(Clone, Copy, Debug, PartialEq, Eq)]
+pub struct TbControls1 {
+    /// The refusal's number, 0 where the call is carried out.
+    pub refusal: u8,
+    /// The network's stages; zeros where the call is refused.
+    pub stages: [u32; 6],
+}
+
+/// Controls for both networks: the answer of the decoder and of the routing
+/// through both.
 #[repr(C)]
 #[derive(Clone, Copy, Debug, PartialEq, Eq)]
 pub struct TbControls2 {
@@ -46,9 +57,24 @@ impl From<TbCarried> for Result<u64, Refusal> {
     }
 }
 
+impl From<TbControls1> for Result<Controls, Refusal> {
+    fn from(answer: TbControls1) -> Self {
+        Refusal::check(answer.refusal).map(|()| Controls::from(answer.stages))
+    }
+}
+
 impl From<TbControls2> for Result<Decoded, Refusal> {
     fn from(answer: TbControls2) -> Self {
         Refusal::check(answer.refusal).map(|()| Decoded {
+            butterfly: Controls::from(answer.butterfly),
+            inverse: Controls::from(answer.inverse),
+        })
+    }
+}
+
+impl From<TbControls2> for Result<Routed, Refusal> {
+    fn from(answer: TbControls2) -> Self {
+        Refusal::check(answer.refusal).map(|()| Routed {
             butterfly: Controls::from(answer.butterfly),
             inverse: Controls::from(answer.inverse),
         })
@@ -71,4 +97,38 @@ unsafe extern "C" {
     pub safe fn tb_inverse(width: u32, stages: &[u32; 6], word: u64) -> TbCarried;
     /// See [`crate::decode()`].
     pub safe fn tb_decode(width: u32, mask: u64) -> TbControls2;
+}
+
+/// The calls of a permutation, which cross as a pointer and a length.
+mod by_pointer {
+    use super::{TbControls1, TbControls2};
+
+    #[allow(unsafe_code)]
+    unsafe extern "C" {
+        pub fn tb_route(width: u32, permutation: *const u8, length: usize) -> TbControls2;
+        pub fn tb_route_butterfly(width: u32, permutation: *const u8, length: usize)
+            -> TbControls1;
+        pub fn tb_route_inverse(width: u32, permutation: *const u8, length: usize) -> TbControls1;
+    }
+}
+
+/// See [`crate::route()`].
+#[allow(unsafe_code)]
+pub fn tb_route(width: u32, permutation: &[u8]) -> TbControls2 {
+    // Safe: answered for every slice, which is only read and not kept.
+    unsafe { by_pointer::tb_route(width, permutation.as_ptr(), permutation.len()) }
+}
+
+/// See [`crate::route_butterfly()`].
+#[allow(unsafe_code)]
+pub fn tb_route_butterfly(width: u32, permutation: &[u8]) -> TbControls1 {
+    // Safe, as in tb_route.
+    unsafe { by_pointer::tb_route_butterfly(width, permutation.as_ptr(), permutation.len()) }
+}
+
+/// See [`crate::route_inverse()`].
+#[allow(unsafe_code)]
+pub fn tb_route_inverse(width: u32, permutation: &[u8]) -> TbControls1 {
+    // Safe, as in tb_route.
+    unsafe { by_pointer::tb_route_inverse(width, permutation.as_ptr(), permutation.len()) }
 }

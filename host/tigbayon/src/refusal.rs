@@ -15,11 +15,24 @@ pub enum Refusal {
     Above = 2,
     /// The controls have a one in an unused bit or stage.
     Unused = 3,
+    /// The permutation has not w entries.
+    Length = 4,
+    /// An entry of the permutation is w or above, or repeated.
+    Entry = 5,
+    /// The one network named does not realise the permutation.
+    NotRealised = 6,
 }
 
 impl Refusal {
     /// Every refusal, by rising number.
-    pub const ALL: [Refusal; 3] = [Refusal::Width, Refusal::Above, Refusal::Unused];
+    pub const ALL: [Refusal; 6] = [
+        Refusal::Width,
+        Refusal::Above,
+        Refusal::Unused,
+        Refusal::Length,
+        Refusal::Entry,
+        Refusal::NotRealised,
+    ];
 
     /// The number, which is part of the interface.
     ///
@@ -35,6 +48,9 @@ impl Refusal {
             Refusal::Width => "width not 8, 16, 32, 64",
             Refusal::Above => "word or mask has a one at bit w or above",
             Refusal::Unused => "a one in an unused control bit or stage",
+            Refusal::Length => "permutation not w long",
+            Refusal::Entry => "permutation entry w or above, or repeated",
+            Refusal::NotRealised => "permutation not realised by the one network named",
         }
     }
 
