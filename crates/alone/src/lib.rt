@@ -1,11 +1,10 @@
 // The control bits of one network alone (paper 01, 'One network').
 ghost use mathlib.Core.Path.{_≡_};
 ghost use mathlib.Core.Bool.{cond};
-ghost use mathlib.Core.List.{[]};
 ghost use Prim.Native.Nat.{_^_, _/_, _≤_, _<_};
 ghost use Rattle.network.specs.Calls.{six};
 ghost use Rattle.routing.specs.Stages.{through, butterfly};
-ghost use Rattle.routing.specs.Lists.{ListPermutes, wordOf, controlIn, butterflyFits, butterflyAlone, inverseFits, inverseAlone};
+ghost use Rattle.routing.specs.Lists.{ListPermutes, wordOf, controlIn};
 ghost use Rattle.alone.specs.Asked.{crossed, asked, askedOf, stageAt, stagesOf, controlsFrom, realises};
 ghost use Rattle.alone.specs.Calls.{Answers, fits, alone};
 
@@ -132,7 +131,7 @@ fn is_realised(rising: bool, log: usize, stages: [u32; 6], entries: &[u8]) -> bo
 }
 
 // internal: a logarithm of at most 6, and a permutation of that width. The stages of the inverse (rising) or of the butterfly.
-fn controls(rising: bool, log: usize, entries: &[u8]) -> Found
+pub fn controls(rising: bool, log: usize, entries: &[u8]) -> Found
     requires { ⌜ (log ≤ 6) × ListPermutes (2 ^ log) (now entries) ⌝ }
     ensures { λ r. ⌜ Answers (fits rising log (now (entries .entry))) (alone rising log (now (entries .entry))) r ⌝ }
 {
@@ -147,20 +146,4 @@ fn controls(rising: bool, log: usize, entries: &[u8]) -> Found
         realised: false,
         stages: [0u32; 6],
     }
-}
-
-// internal: a logarithm of at most 6, and a permutation of that width.
-pub fn butterfly_controls(log: usize, entries: &[u8]) -> Found
-    requires { ⌜ (log ≤ 6) × ListPermutes (2 ^ log) (now entries) ⌝ }
-    ensures { λ r. ⌜ (r .realised ≡ butterflyFits log (now (entries .entry))) × (r .stages ≡ cond (butterflyFits log (now (entries .entry))) (six (butterflyAlone log (now (entries .entry)))) (six [])) ⌝ }
-{
-    controls(false, log, entries)
-}
-
-// internal: a logarithm of at most 6, and a permutation of that width.
-pub fn inverse_controls(log: usize, entries: &[u8]) -> Found
-    requires { ⌜ (log ≤ 6) × ListPermutes (2 ^ log) (now entries) ⌝ }
-    ensures { λ r. ⌜ (r .realised ≡ inverseFits log (now (entries .entry))) × (r .stages ≡ cond (inverseFits log (now (entries .entry))) (six (inverseAlone log (now (entries .entry)))) (six [])) ⌝ }
-{
-    controls(true, log, entries)
 }

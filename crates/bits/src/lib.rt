@@ -1,7 +1,6 @@
-// What every call of the unit shares: accepted widths, the refusal numbers, single bits of a word.
+// What every call of the unit shares: accepted widths, the refusal numbers, the count of ones.
 ghost use mathlib.Core.Path.{_≡_};
-ghost use Prim.Native.Nat.{_<_};
-ghost use Rattle.bits.specs.Bit.{bit, rank};
+ghost use Rattle.bits.specs.Bit.{rank};
 ghost use Rattle.bits.specs.Refusal.{logOf, fits};
 
 // The refusal numbers, paper 01, 'Calls turned back'. They are part of the interface; more may follow, none changes.
@@ -61,12 +60,4 @@ pub fn count(x: u64) -> u64
     ensures { λ r. ⌜ r ≡ rank x 64 ⌝ }
 {
     u64::count_ones(x) as u64
-}
-
-// internal: a place below 64
-pub fn bit_at(x: u64, place: u64) -> u64
-    requires { ⌜ place < 64 ⌝ }
-    ensures { λ r. ⌜ r ≡ bit x place ⌝ }
-{
-    (x >> place) % 2
 }

@@ -6,6 +6,7 @@ ghost use mathlib.Core.List.{[]};
 ghost use Prim.Native.Nat.{_≤_};
 ghost use Rattle.network.specs.Calls.{controls};
 ghost use Rattle.routing.specs.Lists.{butterflyFits, butterflyAlone, inverseFits, inverseAlone};
+ghost use Rattle.alone.specs.Calls.{fits, alone};
 ghost use Rattle.permute.specs.Permutation.{namesOnce};
 ghost use Rattle.permute.specs.Calls.{routeRefusal, routeAnswer, AnswersFirst, oneAnswer};
 
@@ -88,22 +89,25 @@ pub fn route(width: u32, entries: &[u8]) -> Routed
 pub fn route_butterfly(width: u32, entries: &[u8]) -> RoutedOne
     ensures { λ r. ⌜ r ≡ oneAnswer butterflyFits butterflyAlone width (now (entries .entry)) ⌝ }
 {
-    let refused = refusal(width, entries);
-    if refused != 0 {
-        return refused_one(refused);
-    }
-    answer_one(alone::butterfly_controls(bits::log_of(width) as usize, entries))
+    route_one(false, width, entries)
 }
 
 // The controls of the inverse alone that realise the permutation.
 pub fn route_inverse(width: u32, entries: &[u8]) -> RoutedOne
     ensures { λ r. ⌜ r ≡ oneAnswer inverseFits inverseAlone width (now (entries .entry)) ⌝ }
 {
+    route_one(true, width, entries)
+}
+
+// The controls of the inverse alone (rising) or of the butterfly alone.
+fn route_one(rising: bool, width: u32, entries: &[u8]) -> RoutedOne
+    ensures { λ r. ⌜ r ≡ oneAnswer (fits rising) (alone rising) width (now (entries .entry)) ⌝ }
+{
     let refused = refusal(width, entries);
     if refused != 0 {
         return refused_one(refused);
     }
-    answer_one(alone::inverse_controls(bits::log_of(width) as usize, entries))
+    answer_one(alone::controls(rising, bits::log_of(width) as usize, entries))
 }
 
 fn refused_one(refused: u8) -> RoutedOne

@@ -1,13 +1,13 @@
--- `permute::route_inverse` meets its contract. Assumes nothing.
+-- `permute::route_one` meets its contract. Assumes nothing.
 use mathlib.Core.Path.{_∙_}
-use Rattle.routing.specs.Lists.{inverseFits, inverseAlone}
+use Rattle.alone.specs.Calls.{fits, alone}
 use Rattle.permute.proofs.Calls.{route-permutes, one-turned-back, one-answered}
 use borrow.Author.Needs.{needs}
-use Rattle.permute.proofs.route_inverse.Statement.{statement}
-use Rattle.permute.proofs.route_inverse.Tie as tie
-use Rattle.permute.proofs.route_inverse.Reads as reads
-use Rattle.permute.proofs.route_inverse.Lts as lts
-use Rattle.alone.proofs.inverse_controls.Reads as inverse-controls-reads
+use Rattle.permute.proofs.route_one.Statement.{statement}
+use Rattle.permute.proofs.route_one.Tie as tie
+use Rattle.permute.proofs.route_one.Reads as reads
+use Rattle.permute.proofs.route_one.Lts as lts
+use Rattle.alone.proofs.controls.Reads as controls-reads
 use Rattle.bits.proofs.log_of.Reads as log-of-reads
 use Rattle.permute.proofs.answer_one.Reads as answer-one-reads
 use Rattle.permute.proofs.refusal.Reads as refusal-reads
@@ -23,16 +23,16 @@ returns : tie.Need-returns
 returns c =
     let b = c .before in
     let a = b .before .before .before .args in
-    c .refused-one .ensures ∙ one-turned-back (a .width) (a .entries .now) inverseFits inverseAlone (b .before .refusal .ensures) (b .if1 .taken)
+    c .refused-one .ensures ∙ one-turned-back (a .width) (a .entries .now) (fits (a .rising)) (alone (a .rising)) (b .before .refusal .ensures) (b .if1 .taken)
 
 log-of-requires : tie.Need-log-of-requires
 log-of-requires c κs = search needs
 
-cast-inverse-controls : tie.Need-cast-inverse-controls
-cast-inverse-controls c = search needs
+cast-controls : tie.Need-cast-controls
+cast-controls c = search needs
 
-inverse-controls-requires : tie.Need-inverse-controls-requires
-inverse-controls-requires c κs =
+controls-requires : tie.Need-controls-requires
+controls-requires c κs =
     let b = c .before in
     let a = b .before .before .before .args in
     route-permutes (a .width) (a .entries .now) (b .before .refusal .ensures) (b .if1 .left) (c .log-of .ensures)
@@ -44,19 +44,19 @@ returns-2 : tie.Need-returns-2
 returns-2 c =
     let b = c .before .before .before in
     let a = b .before .before .before .args in
-    let f = c .before .inverse-controls .ensures in
-    c .answer-one .ensures ∙ one-answered (a .width) (a .entries .now) inverseFits inverseAlone (b .before .refusal .ensures) (b .if1 .left) (c .before .before .log-of .ensures)
+    let f = c .before .controls .ensures in
+    c .answer-one .ensures ∙ one-answered (a .width) (a .entries .now) (fits (a .rising)) (alone (a .rising)) (b .before .refusal .ensures) (b .if1 .left) (c .before .before .log-of .ensures)
     (f .0) (f .1)
 
-pub route-inverse-spec : {M : Type 1} → statement M
-route-inverse-spec =
+pub route-one-spec : {M : Type 1} → statement M
+route-one-spec =
     tie.close
     (tie.spec
     refusal-requires
     refused-one-requires
     returns
     log-of-requires
-    cast-inverse-controls
-    inverse-controls-requires
+    cast-controls
+    controls-requires
     answer-one-requires
     returns-2)
