@@ -4,6 +4,7 @@ ghost use mathlib.Core.Path.{_≡_};
 ghost use Rattle.network.specs.Stage.{butterflyOf, inverseOf};
 ghost use Rattle.network.specs.Calls.{carryAnswer, decodeAnswer};
 ghost use Rattle.routing.specs.Lists.{butterflyFits, butterflyAlone, inverseFits, inverseAlone};
+ghost use Rattle.pack.specs.Calls.{packAnswer, packedOut, unpackAnswer, unpackedOut};
 ghost use Rattle.permute.specs.Calls.{routeAnswer, AnswersFirst, oneAnswer};
 ghost use Rattle.gather.specs.Gather.{gatherOf, scatterOf, groupOf, answerOf};
 
@@ -71,4 +72,32 @@ pub extern "C" fn tb_route_inverse(width: u32, permutation: &[u8]) -> permute::R
     ensures { λ r. ⌜ r ≡ oneAnswer inverseFits inverseAlone width (now (permutation .entry)) ⌝ }
 {
     permute::route_inverse(width, permutation)
+}
+
+#[no_mangle]
+pub extern "C" fn tb_pack(
+    mask: u64,
+    words: &[u64],
+    a: usize,
+    b: usize,
+    out: &mut [u64],
+) -> pack::Packed
+    ensures { λ r. ⌜ (r ≡ packAnswer mask (now (words .entry)) a b (now (out .entry)))
+        × (now (out .exit) ≡ packedOut mask (now (words .entry)) a b (now (out .entry))) ⌝ }
+{
+    pack::pack(mask, words, a, b, out)
+}
+
+#[no_mangle]
+pub extern "C" fn tb_unpack(
+    mask: u64,
+    packed: &[u64],
+    a: usize,
+    b: usize,
+    out: &mut [u64],
+) -> pack::Packed
+    ensures { λ r. ⌜ (r ≡ unpackAnswer mask (now (packed .entry)) a b (now (out .entry)))
+        × (now (out .exit) ≡ unpackedOut mask (now (packed .entry)) a b (now (out .entry))) ⌝ }
+{
+    pack::unpack(mask, packed, a, b, out)
 }

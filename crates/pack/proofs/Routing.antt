@@ -1,0 +1,58 @@
+-- A network on the controls decoded for a mask gathers and scatters by it: mask routing at six stages. Assumes nothing.
+use mathlib.Core.Path.{_≡_, refl, sym, _∙_, ap}
+use mathlib.Core.List.{List, _++_, append-nil, reverse, reverse-reverse}
+use Prim.Native.Nat.{ℕ, _-_, _^_, _<_}
+use native.Mathlib.Omega.{arith}
+use lib.Bits.{bitAnd, and-le-r}
+use lib.ListN.{length, take, replicate, length-reverse}
+use lib.Seq.{take-all}
+use borrow.Author.Tests.{lt-ltb}
+use Rattle.gather.specs.Gather.{gatherOf, scatterOf}
+use Rattle.network.specs.declared.Decoded.{Decoded}
+use Rattle.network.specs.Stage.{falling, rising, butterflyOf, inverseOf}
+use Rattle.network.specs.Decoder.{decodeOf, decodeInverseOf}
+use Rattle.network.specs.Word.{swapsAt, exchangesOf, travelOf}
+use Rattle.network.specs.Calls.{six, decodeAnswer}
+use Rattle.network.proofs.Routing.{length-decode, mask-routing-gather, mask-routing-scatter}
+use Rattle.network.proofs.Calls.{decode-refusal-by, decode-done}
+use Rattle.network.proofs.Six.{carry-fall, carry-rise}
+use Rattle.pack.specs.Cursor.{routesOf}
+
+module _ (m : ℕ) (h : m < 2 ^ 64) where
+  -- six stages fill the controls
+  six-stages : six (decodeOf 6 m) ≡ decodeOf 6 m
+  six-stages =
+      let z : 6 - length (decodeOf 6 m) ≡ 0 = omega (arith, length-decode 6 m) in
+      ap (λ (n : ℕ). decodeOf 6 m ++ replicate n 0) z ∙ append-nil (decodeOf 6 m)
+
+  decoded-stages : decodeAnswer 64 m .butterfly .stages ≡ decodeOf 6 m
+  decoded-stages =
+      ap (λ (d : Decoded). d .butterfly .stages)
+      (sym (decode-done 64 m (sym (decode-refusal-by 64 m refl (lt-ltb m (2 ^ 64) h))) refl {l = 6} refl refl refl))
+      ∙ six-stages
+
+  -- what the code prepares
+  pub routes-prepared : {d : Decoded} {ws : List ℕ} → d ≡ decodeAnswer 64 m → ws ≡ swapsAt (falling 6) (d .butterfly .stages) → ws ≡ routesOf m
+  unfolding routesOf
+  routes-prepared e p = p ∙ ap (swapsAt (falling 6)) (ap (λ (d : Decoded). d .butterfly .stages) e ∙ decoded-stages)
+
+  module _ {ws : List ℕ} (e : ws ≡ routesOf m) (x : ℕ) where
+    pub rise-gathers : exchangesOf (rising 6) (reverse ws) (bitAnd x m) ≡ gatherOf 64 m x
+    unfolding routesOf decodeInverseOf travelOf inverseOf
+    rise-gathers =
+        let d = decodeOf 6 m in
+        let n : length (reverse d) ≡ 6 = length-reverse d ∙ length-decode 6 m in
+        let back : reverse (take 6 (reverse d)) ≡ d = ap reverse (take-all 6 (reverse d) (omega arith)) ∙ reverse-reverse d in
+        ap (λ (cs : List ℕ). exchangesOf (rising 6) (reverse cs) (bitAnd x m)) (e ∙ ap (swapsAt (falling 6)) (sym back))
+        ∙ carry-rise 6 (omega arith) (reverse d) n {x = bitAnd x m} (omega (arith, and-le-r x m))
+        ∙ mask-routing-gather 6 m x h
+
+    pub fall-scatters : x < 2 ^ 64 → bitAnd (exchangesOf (falling 6) ws x) m ≡ scatterOf 64 m x
+    unfolding routesOf travelOf butterflyOf
+    fall-scatters l =
+        let d = decodeOf 6 m in
+        let own : take 6 d ≡ d = take-all 6 d (omega (arith, length-decode 6 m)) in
+        ap (λ (y : ℕ). bitAnd y m)
+        (ap (λ (cs : List ℕ). exchangesOf (falling 6) cs x) (e ∙ ap (swapsAt (falling 6)) (sym own))
+        ∙ carry-fall 6 (omega arith) d (length-decode 6 m) {x = x} l)
+        ∙ mask-routing-scatter 6 m x h

@@ -1,0 +1,179 @@
+-- Theorems on pack and unpack: the refusals and the count of bits, the stream bit by bit, the round trip, and row 11 of the paper. Assumes nothing.
+use mathlib.Core.Path.{_≡_, refl, sym, _∙_, ap}
+use mathlib.Core.List.{List, [], _∷_, _++_, map}
+use Prim.Native.Nat.{ℕ, zero, suc, _+_, _-_, _*_, _/_, _%_, _^_, _<_, _≤_}
+use native.Mathlib.Omega.{arith}
+use native.Mathlib.Nat.{zero-mul, mod-lt, div-add-mod', div-lt-iff-lt-mul}
+use lib.Bits.{bitAnd}
+use lib.ListN.{length, getD, take, drop, length-map, List·getD-append}
+use lib.Seq.{ext-getD, getD-take, getD-drop}
+use Rattle.bits.specs.Bit.{bit, ofBits, rank, places, pick}
+use Rattle.bits.specs.Refusal.{IsLowest}
+use Rattle.bits.proofs.Word.{bit-mod-two, bit-ofBits, ofBits-lt, ext}
+use Rattle.bits.proofs.Places.{pick-marked-lt}
+use Rattle.gather.specs.Gather.{gatherOf, scatterOf}
+use Rattle.gather.proofs.Theorems.{scatter-gather}
+use Rattle.network.proofs.Filling.{map-at}
+use Rattle.pack.specs.Fields.{upTo, sizeOf, needed, cut, fieldsOf, streamBit, wordAt, packInto, packedBit, fieldAt, scatteredAt, unpackInto}
+use Rattle.pack.specs.Calls.{conditionsOf, refusalOf, answerOf, leftOf, packAnswer, packedOut, unpackAnswer, unpackedOut}
+use Rattle.pack.proofs.Lists.{length-upTo, getD-upTo, upTo-same, length-filled}
+use Rattle.pack.proofs.Stream.{ofBits-same}
+use Rattle.pack.proofs.Reading.{bit-packed}
+use Rattle.pack.proofs.Turns.{stream-word, stream-end, next-field}
+use Rattle.pack.proofs.Calls.{Within, carried-out, within, by-none, answer-done, answer-refusal, answer-lowest, answer-bits, length-cut, cut-room}
+
+-- Demand 1, of each call: the answer's first number is the lowest that applies. Bits answered: as many as the mask marks, for each word from a up to b.
+module _ (m : ℕ) (first : List ℕ) (a b : ℕ) (out : List ℕ) where
+  pub pack-refusal-lowest : IsLowest (conditionsOf (sizeOf m) a b (length first) (length out)) (packAnswer m first a b out .refusal)
+  pack-refusal-lowest = answer-lowest (sizeOf m) a b (length first) (length out)
+
+  pub unpack-refusal-lowest : IsLowest (conditionsOf (sizeOf m) a b (length out) (length first)) (unpackAnswer m first a b out .refusal)
+  unpack-refusal-lowest = answer-lowest (sizeOf m) a b (length out) (length first)
+
+  pub pack-bits : packAnswer m first a b out .refusal ≡ 0 → packAnswer m first a b out .bits ≡ sizeOf m * (b - a)
+  pack-bits = answer-bits (sizeOf m) a b (length first) (length out)
+
+  pub unpack-bits : unpackAnswer m first a b out .refusal ≡ 0 → unpackAnswer m first a b out .bits ≡ sizeOf m * (b - a)
+  unpack-bits = answer-bits (sizeOf m) a b (length out) (length first)
+
+positive : {n : ℕ} (k d : ℕ) → n < k * d → 0 < k
+positive zero d h = absurd (omega (arith, zero-mul d))
+positive (suc k) d h = omega arith
+
+-- bit n of the packed words is bit n of the stream
+
+module _ (m : ℕ) (ws out : List ℕ) where
+  packed-stream : (n : ℕ) → n < 64 * needed (sizeOf m * length ws) → packedBit (packInto m ws out) n ≡ streamBit (sizeOf m) (fieldsOf m ws) n % 2
+  unfolding packInto packedBit wordAt
+  packed-stream n h =
+      let s = streamBit (sizeOf m) (fieldsOf m ws) in
+      let c = needed (sizeOf m * length ws) in
+      let l : n / 64 < c = omega arith in
+      let e : 64 * (n / 64) + n % 64 ≡ n = omega arith in
+      ap (λ (x : ℕ). bit x (n % 64))
+      (List·getD-append (upTo c (wordAt s)) (drop c out) 0 (n / 64) (omega (arith, length-upTo (wordAt s) c)) ∙ getD-upTo (wordAt s) c (n / 64) l)
+      ∙ bit-ofBits 64 (λ i. s (64 * (n / 64) + i)) (n % 64) (omega arith)
+      ∙ ap (λ (a : ℕ). s a % 2) e
+
+  packed-bit : (f i : ℕ) → f < length ws → i < sizeOf m
+      → packedBit (packInto m ws out) (sizeOf m * f + i) ≡ bit (gatherOf 64 m (getD ws f 0)) i
+  packed-bit f i h l =
+      packed-stream (sizeOf m * f + i) (omega (arith, next-field (sizeOf m) f (length ws) h))
+      ∙ ap (λ (n : ℕ). n % 2) (stream-word m ws out f i h l)
+      ∙ bit-mod-two (gatherOf 64 m (getD ws f 0)) i
+
+  -- a field is read as it was written
+  field-back : (f : ℕ) → f < length ws → fieldAt (sizeOf m) (packInto m ws out) f ≡ gatherOf 64 m (getD ws f 0)
+  unfolding fieldAt gatherOf
+  field-back f h =
+      let ps = packInto m ws out in
+      ext (sizeOf m) (ofBits-lt (sizeOf m) (λ i. packedBit ps (f * sizeOf m + i))) (pick-marked-lt m 64 (getD ws f 0))
+      (λ i l.
+      let e : f * sizeOf m + i ≡ sizeOf m * f + i = omega arith in
+      bit-packed ps (sizeOf m) (f * sizeOf m) i l ∙ ap (packedBit ps) e ∙ packed-bit f i h l)
+
+  -- and comes back scattered
+  words-back : m < 2 ^ 64 → upTo (length ws) (scatteredAt m (packInto m ws out)) ≡ map (λ x. bitAnd x m) ws
+  unfolding scatteredAt
+  words-back hm =
+      let ps = packInto m ws out in
+      ext-getD 0 (upTo (length ws) (scatteredAt m ps)) (map (λ x. bitAnd x m) ws)
+      (length-upTo (scatteredAt m ps) (length ws) ∙ sym (length-map ws (λ x. bitAnd x m)))
+      (λ f h.
+      let l : f < length ws = omega (arith, length-upTo (scatteredAt m ps) (length ws)) in
+      getD-upTo (scatteredAt m ps) (length ws) f l
+      ∙ ap (scatterOf 64 m) (field-back f l)
+      ∙ scatter-gather 64 m (getD ws f 0) hm
+      ∙ sym (map-at (λ x. bitAnd x m) ws f l))
+
+-- Bit n of the packed words is bit n mod k of the gathered word number a + n / k; spare bits are zero.
+module _ (m a b : ℕ) (ws out : List ℕ) (h : a ≤ b) (l : b ≤ length ws) (n : ℕ) where
+  total : sizeOf m * length (cut a b ws) ≡ sizeOf m * (b - a)
+  total = ap (λ (d : ℕ). sizeOf m * d) (length-cut a b ws h l)
+
+  pub pack-bit : n < sizeOf m * (b - a)
+      → packedBit (packInto m (cut a b ws) out) n ≡ bit (gatherOf 64 m (getD ws (a + n / sizeOf m) 0)) (n % sizeOf m)
+  pack-bit u =
+      let k = sizeOf m in
+      let q = n / k in
+      let z = positive k (b - a) u in
+      let p : q < b - a = div-lt-iff-lt-mul {k = k} {x = n} {y = b - a} z .1 (omega arith) in
+      let v : q < length (cut a b ws) = omega (arith, length-cut a b ws h l) in
+      let e : k * q + n % k ≡ n = omega (arith, div-add-mod' n k) in
+      let w : getD (cut a b ws) q 0 ≡ getD ws (a + q) 0 = getD-take (b - a) (drop a ws) q 0 p ∙ getD-drop a ws q 0 in
+      ap (packedBit (packInto m (cut a b ws) out)) (sym e)
+      ∙ packed-bit m (cut a b ws) out q (n % k) v (mod-lt n z)
+      ∙ ap (λ (x : ℕ). bit (gatherOf 64 m x) (n % k)) w
+
+  pub pack-spare : sizeOf m * (b - a) ≤ n → n < 64 * needed (sizeOf m * (b - a)) → packedBit (packInto m (cut a b ws) out) n ≡ 0
+  pack-spare u v =
+      packed-stream m (cut a b ws) out n (omega (arith, total))
+      ∙ ap (λ (x : ℕ). x % 2)
+      (stream-end (sizeOf m) (fieldsOf m (cut a b ws)) n
+      (omega (arith, total, ap (λ (d : ℕ). sizeOf m * d) (length-map (cut a b ws) (gatherOf 64 m)))))
+
+-- Spare bits of the last word read are not looked at: unpack gives the same for packed words that agree in the bits of the fields.
+pub unpack-spare : (m : ℕ) (ps qs : List ℕ) (a b : ℕ) (out : List ℕ) → ((n : ℕ) → n < sizeOf m * (b - a) → packedBit ps n ≡ packedBit qs n)
+    → unpackInto m ps a b out ≡ unpackInto m qs a b out
+unfolding unpackInto scatteredAt fieldAt
+unpack-spare m ps qs a b out e =
+    ap (λ (l : List ℕ). take a out ++ (l ++ drop b out))
+    (upTo-same (b - a) (scatteredAt m ps) (scatteredAt m qs)
+    (λ f h.
+    ap (scatterOf 64 m)
+    (ofBits-same (sizeOf m) (λ i. packedBit ps (f * sizeOf m + i)) (λ i. packedBit qs (f * sizeOf m + i))
+    (λ i l. e (f * sizeOf m + i) (omega (arith, next-field (sizeOf m) f (b - a) h))))))
+
+-- Unpack after pack on the same mask, a and b: words a to b-1 are those packed with unmarked bits zero, whatever stood there and among the packed words
+-- before; the other words are as they were.
+pub unpack-pack : (m : ℕ) → m < 2 ^ 64 → (a b : ℕ) (ws : List ℕ) → a ≤ b → b ≤ length ws → (out ys : List ℕ)
+    → unpackInto m (packInto m (cut a b ws) out) a b ys ≡ take a ys ++ (map (λ x. bitAnd x m) (cut a b ws) ++ drop b ys)
+unfolding unpackInto
+unpack-pack m hm a b ws h l out ys =
+    let n = length-cut a b ws h l in
+    ap (λ (zs : List ℕ). take a ys ++ (zs ++ drop b ys))
+    (ap (λ (c : ℕ). upTo c (scatteredAt m (packInto m (cut a b ws) out))) (sym n) ∙ words-back m (cut a b ws) out hm)
+
+-- The same of the calls, with the answers: if pack is carried out, unpack of what it left, into words that b and the limit allow, is carried out too.
+module _ (m : ℕ) (hm : m < 2 ^ 64) (ws out : List ℕ) (a b : ℕ) (h : packAnswer m ws a b out .refusal ≡ 0) where
+  ok : refusalOf (sizeOf m) a b (length ws) (length out) ≡ 0
+  ok = sym (answer-refusal (sizeOf m) a b (length ws) (length out)) ∙ h
+
+  limits-of : Within (sizeOf m) a b (length ws) (length out)
+  limits-of = within (sizeOf m) a b (length ws) (length out) ok
+
+  packed-is : packedOut m ws a b out ≡ packInto m (cut a b ws) out
+  packed-is =
+      sym (carried-out (sizeOf m) a b (length ws) (length out) refl refl (packInto m (cut a b ws) out) out h refl .1)
+
+  -- pack leaves as many words as there were
+  length-packed : length (packedOut m ws a b out) ≡ length out
+  unfolding packInto
+  length-packed =
+      let w = limits-of in
+      let s = wordAt (streamBit (sizeOf m) (fieldsOf m (cut a b ws))) in
+      let r = cut-room a b ws (w .order) (w .end) (sizeOf m) (w .room) in
+      ap length packed-is ∙ length-filled s (needed (sizeOf m * length (cut a b ws))) out ∙ omega arith
+
+  pub calls-unpack-pack : (ys : List ℕ) → b ≤ length ys → length ys ≤ 2048
+      → (unpackAnswer m (packedOut m ws a b out) a b ys ≡ record { refusal = 0; bits = sizeOf m * (b - a) })
+      × (unpackedOut m (packedOut m ws a b out) a b ys ≡ take a ys ++ (map (λ x. bitAnd x m) (cut a b ws) ++ drop b ys))
+  calls-unpack-pack ys l u =
+      let w = limits-of in
+      let ps = packedOut m ws a b out in
+      let z : refusalOf (sizeOf m) a b (length ys) (length ps) ≡ 0 =
+      sym (by-none (sizeOf m) a b (length ys) (length ps)
+      (record { order = w .order; end = l; own-limit = u; other-limit = omega (arith, length-packed, w .other-limit); room = omega (arith, length-packed, w .room) }))
+      in
+      let done = carried-out (sizeOf m) a b (length ys) (length ps) refl refl (unpackInto m ps a b ys) ys (answer-refusal (sizeOf m) a b (length ys) (length ps) ∙ z) refl in (
+        sym (answer-done (sizeOf m) a b (length ys) (length ps) (sym z) refl),
+        sym (done .1)
+            ∙ ap (λ (qs : List ℕ). unpackInto m qs a b ys) packed-is
+            ∙ unpack-pack m hm a b ws (w .order) (w .end) out ys,
+      )
+
+-- Row 11: pack, mask 0xFFF, words 1, 2, 3, 4, 5, 0x9A6, a = 0, b = 6: 72 bits; 0x6005004003002001, 0x9A. A third word keeps its value.
+pub row-11 : (packAnswer 0xFFF (1 ∷ 2 ∷ 3 ∷ 4 ∷ 5 ∷ 0x9A6 ∷ []) 0 6 (7 ∷ 7 ∷ 7 ∷ []) ≡ record { refusal = 0; bits = 72 })
+    × (packedOut 0xFFF (1 ∷ 2 ∷ 3 ∷ 4 ∷ 5 ∷ 0x9A6 ∷ []) 0 6 (7 ∷ 7 ∷ 7 ∷ []) ≡ 0x6005004003002001 ∷ 0x9A ∷ 7 ∷ [])
+unfolding answerOf leftOf refusalOf rank packInto upTo wordAt streamBit gatherOf pick places ofBits bit
+row-11 = (refl, refl)

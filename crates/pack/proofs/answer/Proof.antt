@@ -1,0 +1,37 @@
+-- `pack::answer` meets its contract. Assumes nothing.
+use mathlib.Core.Path.{sym, _∙_}
+use native.Mathlib.Omega.{arith}
+use Rattle.pack.proofs.Calls.{within, answer-refused, answer-done, bits-fit}
+use borrow.Author.Needs.{needs}
+use Rattle.pack.proofs.answer.Statement.{statement}
+use Rattle.pack.proofs.answer.Tie as tie
+use Rattle.pack.proofs.answer.Reads as reads
+use Rattle.pack.proofs.answer.Lts as lts
+use Rattle.pack.proofs.refusal.Reads as refusal-reads
+
+refusal-requires : tie.Need-refusal-requires
+refusal-requires c κs = search needs
+
+returns : tie.Need-returns
+returns c =
+    let a = c .before .before .args in
+    answer-refused (a .size) (a .a) (a .b) (a .own) (a .other) (c .before .refusal .ensures) (c .if1 .taken)
+
+sub-t8 : tie.Need-sub-t8
+sub-t8 c =
+    let a = c .before .before .args in
+    within (a .size) (a .a) (a .b) (a .own) (a .other) (sym (c .before .refusal .ensures) ∙ c .if1 .left) .order
+
+mul-t10 : tie.Need-mul-t10
+mul-t10 c =
+    let a = c .before .before .args in
+    let l = bits-fit (a .size) (a .a) (a .b) (a .own) (a .other) (c .before .refusal .ensures) (search needs) (c .if1 .left) in
+    record { fits = omega arith }
+
+returns-2 : tie.Need-returns-2
+returns-2 c =
+    let a = c .before .before .args in
+    answer-done (a .size) (a .a) (a .b) (a .own) (a .other) (c .before .refusal .ensures) (c .if1 .left)
+
+pub answer-spec : {M : Type 1} → statement M
+answer-spec = tie.close (tie.spec refusal-requires returns sub-t8 mul-t10 returns-2)
