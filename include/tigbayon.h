@@ -14,8 +14,8 @@
  * each call ends. No function keeps state or allocates. None touches any memory
  * but what its arguments point to, and where that is const it is only read.
  *
- * Later functions (packing, register unit) are added to this header; a refusal
- * number, once given, keeps its meaning.
+ * Later functions (register unit) are added to this header; a refusal number,
+ * once given, keeps its meaning.
  */
 #ifndef TIGBAYON_H
 #define TIGBAYON_H
@@ -32,13 +32,16 @@ extern "C" {
  * apply to a call, the lowest number is answered.
  */
 enum TbRefusal {
-    TB_CARRIED_OUT = 0,         /* not refused */
-    TB_REFUSAL_WIDTH = 1,       /* width not 8, 16, 32, 64 */
-    TB_REFUSAL_ABOVE = 2,       /* word or mask has a one at bit w or above */
-    TB_REFUSAL_UNUSED = 3,      /* a one in an unused control bit or stage */
-    TB_REFUSAL_LENGTH = 4,      /* permutation not w long */
-    TB_REFUSAL_ENTRY = 5,       /* permutation entry w or above, or repeated */
-    TB_REFUSAL_NOT_REALISED = 6 /* permutation not realised by the one network named */
+    TB_CARRIED_OUT = 0,          /* not refused */
+    TB_REFUSAL_WIDTH = 1,        /* width not 8, 16, 32, 64 */
+    TB_REFUSAL_ABOVE = 2,        /* word or mask has a one at bit w or above */
+    TB_REFUSAL_UNUSED = 3,       /* a one in an unused control bit or stage */
+    TB_REFUSAL_LENGTH = 4,       /* permutation not w long */
+    TB_REFUSAL_ENTRY = 5,        /* permutation entry w or above, or repeated */
+    TB_REFUSAL_NOT_REALISED = 6, /* permutation not realised by the one network named */
+    TB_REFUSAL_RANGE = 9,        /* a above b, b above the length of the strip that a and b
+                                    cut, or either strip above 2,048 words */
+    TB_REFUSAL_SHORT = 10        /* the other strip shorter than its bits need */
 };
 
 /* The answer of tb_gather, tb_scatter and tb_group. */
@@ -157,6 +160,45 @@ TbControls1 tb_route_butterfly(uint32_t width, const uint8_t *permutation, size_
  * TB_REFUSAL_NOT_REALISED.
  */
 TbControls1 tb_route_inverse(uint32_t width, const uint8_t *permutation, size_t length);
+
+/*
+ * Packing, at width 64. A strip is a row of at most 2,048 words. The k bits
+ * that the mask gathers from a word form a field. Packed, fields lie end to
+ * end: the first begins at bit 0 of word 0, the next at the bit after its last,
+ * crossing into the next word where needed. The k*(b - a) bits of fields a to
+ * b-1 need k*(b - a)/64 words, rounded up; what is left of the last of these is
+ * its spare bits.
+ *
+ * In each call here, the first pointer points to `length` words, which are only
+ * read, and `out` to `out_length` words. The two strips must not overlap. A
+ * refused call leaves every word as it was.
+ */
+
+/* The answer of tb_pack and tb_unpack. */
+typedef struct {
+    uint8_t refusal; /* an enum TbRefusal */
+    uint64_t bits;   /* k*(b - a); 0 if the call is refused */
+} TbPacked;
+
+/*
+ * Pack: the fields of words a to b-1 of `words`, packed into `out`. Spare bits
+ * become zero, and words after them stay as they were. With no bits no word is
+ * written.
+ * Refusals: TB_REFUSAL_RANGE (a and b cut `words`), TB_REFUSAL_SHORT (of
+ * `out`).
+ */
+TbPacked tb_pack(uint64_t mask, const uint64_t *words, size_t length, size_t a, size_t b,
+                 uint64_t *out, size_t out_length);
+
+/*
+ * Unpack: the fields of `packed`, each scattered by the mask, written into
+ * words a to b-1 of `out`; its other words stay as they were. Spare bits are
+ * not looked at. With k = 0 words a to b-1 become zero.
+ * Refusals: TB_REFUSAL_RANGE (a and b cut `out`), TB_REFUSAL_SHORT (of
+ * `packed`).
+ */
+TbPacked tb_unpack(uint64_t mask, const uint64_t *packed, size_t length, size_t a, size_t b,
+                   uint64_t *out, size_t out_length);
 
 #ifdef __cplusplus
 }

@@ -6,6 +6,7 @@
 mod bmi2;
 mod masks;
 mod networks;
+mod packing;
 mod routing;
 mod timing;
 
@@ -18,7 +19,7 @@ const WIDTH: u32 = 64;
 /// A bench runs the call of its name.
 type Bench = (&'static str, fn(&str));
 
-const BENCHES: [Bench; 9] = [
+const BENCHES: [Bench; 11] = [
     ("butterfly", networks::butterfly),
     ("inverse", networks::inverse),
     ("decode", networks::decode),
@@ -28,6 +29,8 @@ const BENCHES: [Bench; 9] = [
     ("route", routing::route),
     ("route_butterfly", routing::route_butterfly),
     ("route_inverse", routing::route_inverse),
+    ("pack", packing::pack),
+    ("unpack", packing::unpack),
 ];
 
 fn main() -> ExitCode {

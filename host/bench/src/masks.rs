@@ -82,8 +82,12 @@ fn group_by(gather: impl Peer) -> impl Peer {
 }
 
 /// Hacker's Delight, Section 7-4: compress, or generalised extract.
-fn compress(mask: u64, word: u64) -> u64 {
-    let moves = moves(mask);
+pub fn compress(mask: u64, word: u64) -> u64 {
+    compress_by(&moves(mask), mask, word)
+}
+
+/// The same on moves made before.
+pub fn compress_by(moves: &[u64; 6], mask: u64, word: u64) -> u64 {
     (0..6).fold(word & mask, |word, i| {
         let moved = word & moves[i];
         word ^ moved | moved >> (1 << i)
@@ -91,8 +95,12 @@ fn compress(mask: u64, word: u64) -> u64 {
 }
 
 /// Hacker's Delight, Section 7-5: expand, or generalised insert.
-fn expand(mask: u64, word: u64) -> u64 {
-    let moves = moves(mask);
+pub fn expand(mask: u64, word: u64) -> u64 {
+    expand_by(&moves(mask), mask, word)
+}
+
+/// The same on moves made before.
+pub fn expand_by(moves: &[u64; 6], mask: u64, word: u64) -> u64 {
     let spread = (0..6).rev().fold(word, |word, i| {
         let moved = word << (1 << i) & moves[i];
         word & !moves[i] | moved
@@ -102,7 +110,7 @@ fn expand(mask: u64, word: u64) -> u64 {
 
 /// For i of 0 to 5, the bits that compress moves to the right by 2^i, as they
 /// lie after the lower moves.
-fn moves(mut mask: u64) -> [u64; 6] {
+pub fn moves(mut mask: u64) -> [u64; 6] {
     let mut zeros_to_the_right = !mask << 1;
     let mut moves = [0; 6];
     for (i, moved) in moves.iter_mut().enumerate() {

@@ -36,9 +36,7 @@ pub fn decode(name: &str) {
     .peer("the same algorithm", |&mask| {
         decode_in_rust(turned_by_cases, mask)
     })
-    .peer("the same, turning without a branch", |&mask| {
-        decode_in_rust(turned_by_shift, mask)
-    })
+    .peer("the same, turning without a branch", |&mask| decoded(mask))
     .print(name);
 }
 
@@ -85,7 +83,7 @@ pub fn log_distance<const RISING: bool>(stage: usize) -> usize {
 }
 
 /// For each stage, ones at the lower bit of every pair that it swaps.
-fn swaps_of<const RISING: bool>(stages: &[u32; STAGES]) -> [u64; STAGES] {
+pub fn swaps_of<const RISING: bool>(stages: &[u32; STAGES]) -> [u64; STAGES] {
     let mut swaps = [0; STAGES];
     for (i, swaps) in swaps.iter_mut().enumerate() {
         let log = log_distance::<RISING>(i);
@@ -103,12 +101,17 @@ fn spread(log: usize, stage: u32) -> u64 {
 }
 
 /// Exchanges the marked pairs, stage by stage.
-fn delta_swaps<const RISING: bool>(swaps: &[u64; STAGES], word: u64) -> u64 {
+pub fn delta_swaps<const RISING: bool>(swaps: &[u64; STAGES], word: u64) -> u64 {
     (0..STAGES).fold(word, |word, i| {
         let distance = 1 << log_distance::<RISING>(i);
         let differ = (word ^ word >> distance) & swaps[i];
         word ^ differ ^ differ << distance
     })
+}
+
+/// Algorithm 1, as its fastest peer here.
+pub fn decoded(mask: u64) -> Decoded {
+    decode_in_rust(turned_by_shift, mask)
 }
 
 /// Algorithm 1, given how to turn zeros.

@@ -148,21 +148,8 @@ where
         let input = || format!("{} {width} {by:x?} {word:x?}", self.name);
         let library = (self.raw)(width, by, word);
         let model = (self.model)(width, by, word);
-        assert!(
-            library == model,
-            "{}: library {library:x?}, model {model:x?}",
-            input()
-        );
-        let wrapped = (self.wrapped)(width, by, word).map_err(Refusal::number);
-        let expected = match library.refusal {
-            0 => Ok(library.result),
-            number => Err(number),
-        };
-        assert!(
-            wrapped == expected,
-            "{}: library {expected:x?}, wrapper {wrapped:x?}",
-            input()
-        );
+        let wrapped = (self.wrapped)(width, by, word);
+        assert_agree(input, library, model, wrapped);
         model
     }
 
@@ -172,6 +159,30 @@ where
         assert_eq!(answer.refusal, 0, "{} is carried out", self.name);
         answer.result
     }
+}
+
+/// Panics unless library, model and wrapper answer this input alike.
+pub(crate) fn assert_agree<R: Copy + Debug + PartialEq>(
+    input: impl Fn() -> String,
+    library: Answer<R>,
+    model: Answer<R>,
+    wrapped: Result<R, Refusal>,
+) {
+    assert!(
+        library == model,
+        "{}: library {library:x?}, model {model:x?}",
+        input()
+    );
+    let wrapped = wrapped.map_err(Refusal::number);
+    let expected = match library.refusal {
+        0 => Ok(library.result),
+        number => Err(number),
+    };
+    assert!(
+        wrapped == expected,
+        "{}: library {expected:x?}, wrapper {wrapped:x?}",
+        input()
+    );
 }
 
 /// Checks these calls on one input.

@@ -5,6 +5,7 @@ pub mod controls;
 pub mod permutations;
 pub mod refusals;
 pub mod samples;
+pub mod strips;
 
 /// The accepted widths.
 pub const WIDTHS: [u32; 4] = [8, 16, 32, 64];

@@ -1,5 +1,5 @@
-//! Random and structured words, controls and permutations, the same in every
-//! run.
+//! Random and structured words, controls, permutations and strips, the same in
+//! every run.
 
 use crate::controls::{stages, Controls};
 use crate::low_ones;
@@ -99,6 +99,17 @@ pub fn random_permutation(random: &mut Random, width: u32) -> Vec<u8> {
         permutation.swap(place as usize, random.below(place + 1) as usize);
     }
     permutation
+}
+
+/// A mask of width 64 with so many ones, any of them alike.
+pub fn mask_of(random: &mut Random, ones: u32) -> u64 {
+    let bits = random_permutation(random, 64);
+    bits[..ones as usize].iter().map(|bit| 1 << bit).sum()
+}
+
+/// So many random words.
+pub fn strip(random: &mut Random, length: usize) -> Vec<u64> {
+    (0..length).map(|_| random.word()).collect()
 }
 
 /// What one network, on controls of some shape, makes of the bits.

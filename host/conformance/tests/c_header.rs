@@ -4,9 +4,24 @@
 use std::mem::{offset_of, size_of};
 use std::path::Path;
 use std::process::Command;
-use tigbayon::{Refusal, TbCarried, TbControls1, TbControls2, TbGathered};
+use tigbayon::{Refusal, TbCarried, TbControls1, TbControls2, TbGathered, TbPacked};
 
 const CRATE: &str = env!("CARGO_MANIFEST_DIR");
+
+/// What pack and unpack answer, and the words of the strips then.
+const STRIPS: &str = "\
+    pack 0 72: 6005004003002001 9a 7\n\
+    unpack 0 72: 7 1 2 3 4 5 9a6 7\n\
+    pack 10 0: 6005004003002001 9a 7\n\
+    pack 9 0: 6005004003002001 9a 7\n\
+    unpack 10 0: 7 1 2 3 4 5 9a6 7\n\
+    unpack 9 0: 7 1 2 3 4 5 9a6 7\n\
+    pack 0 0:\n\
+    unpack 0 0:\n\
+    pack 9 0:\n\
+    pack 10 0:\n\
+    unpack 0 0: 7 0 0 0 0 0 0 7\n\
+    words: 1 2 3 4 5 9a6\n";
 
 /// Compiles tests/c/interface.c with the archive and answers what it prints.
 fn compile_and_run(compiler: &str, language: &str, standard: &str) -> String {
@@ -43,6 +58,7 @@ fn layouts() -> String {
         + &layout!(TbCarried, refusal, word)
         + &layout!(TbControls1, refusal, stages)
         + &layout!(TbControls2, refusal, butterfly, inverse)
+        + &layout!(TbPacked, refusal, bits)
 }
 
 fn expected() -> String {
@@ -73,7 +89,9 @@ fn expected() -> String {
         route_butterfly 4 0 0 0 0 0 0\n\
         route_inverse 4 0 0 0 0 0 0\n\
         permutation 0 4 2 3 1 5 6 7\n";
-    format!("{}numbers 0{}\n{answers}", layouts(), numbers.concat())
+    let layouts = layouts();
+    let numbers = numbers.concat();
+    format!("{layouts}numbers 0{numbers}\n{answers}{STRIPS}")
 }
 
 #[test]

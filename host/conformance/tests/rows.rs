@@ -1,6 +1,7 @@
 //! Paper 01's reel of examples.
 
 use conformance::call::{decode, route, BUTTERFLY, GATHER, GROUP, ROUTE_ONE, SCATTER};
+use conformance::strips::PACK;
 use model::refusal::Answer;
 
 #[test]
@@ -58,6 +59,15 @@ fn row_9_either_network_alone() {
         let answer = routing.check(8, &BITS_1_AND_4_SWAPPED, ());
         assert_eq!(answer, Answer::refused(6));
     }
+}
+
+#[test]
+fn row_11_pack() {
+    let mut out = [7; 2];
+    let answer = PACK.check(0xFFF, &[1, 2, 3, 4, 5, 0x9A6], 0, 6, &mut out);
+    let (refusal, result) = (0, 72);
+    assert_eq!(answer, Answer { refusal, result });
+    assert_eq!(out, [0x6005_0040_0300_2001, 0x9A]);
 }
 
 /// Demand page: "It takes 12-bit colour out of 16-bit words".

@@ -9,6 +9,7 @@ pub mod bits;
 pub mod decoder;
 pub mod gather;
 pub mod network;
+pub mod packing;
 pub mod permutation;
 pub mod refusal;
 pub mod routing;

@@ -14,6 +14,11 @@ pub const LENGTH: u8 = 4;
 pub const ENTRY: u8 = 5;
 /// "order not realised by the one network named"
 pub const NOT_REALISED: u8 = 6;
+/// "a above b, b above the length of the strip that a and b cut, or either
+/// strip above 2,048 words"
+pub const RANGE: u8 = 9;
+/// "the other strip shorter than its bits need"
+pub const SHORT: u8 = 10;
 
 /// The answer of a call.
 #[derive(Clone, Copy, Debug, PartialEq, Eq)]

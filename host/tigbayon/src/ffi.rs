@@ -45,6 +45,16 @@ pub struct TbControls2 {
     pub inverse: [u32; 6],
 }
 
+/// The answer of pack and unpack.
+#[repr(C)]
+#[derive(Clone, Copy, Debug, PartialEq, Eq)]
+pub struct TbPacked {
+    /// The refusal's number, 0 where the call is carried out.
+    pub refusal: u8,
+    /// The count of bits packed or unpacked; 0 where the call is refused.
+    pub bits: u64,
+}
+
 impl From<TbGathered> for Result<u64, Refusal> {
     fn from(answer: TbGathered) -> Self {
         Refusal::check(answer.refusal).map(|()| answer.word)
@@ -81,6 +91,12 @@ impl From<TbControls2> for Result<Routed, Refusal> {
     }
 }
 
+impl From<TbPacked> for Result<u64, Refusal> {
+    fn from(answer: TbPacked) -> Self {
+        Refusal::check(answer.refusal).map(|()| answer.bits)
+    }
+}
+
 // Safe: answered for every input, and a reference points to as many numbers as
 // the header asks for; none is written through or kept.
 #[allow(unsafe_code)]
@@ -99,9 +115,9 @@ unsafe extern "C" {
     pub safe fn tb_decode(width: u32, mask: u64) -> TbControls2;
 }
 
-/// The calls of a permutation, which cross as a pointer and a length.
+/// The calls of a permutation or of strips, which cross as a pointer and a length.
 mod by_pointer {
-    use super::{TbControls1, TbControls2};
+    use super::{TbControls1, TbControls2, TbPacked};
 
     #[allow(unsafe_code)]
     unsafe extern "C" {
@@ -109,6 +125,24 @@ mod by_pointer {
         pub fn tb_route_butterfly(width: u32, permutation: *const u8, length: usize)
             -> TbControls1;
         pub fn tb_route_inverse(width: u32, permutation: *const u8, length: usize) -> TbControls1;
+        pub fn tb_pack(
+            mask: u64,
+            words: *const u64,
+            length: usize,
+            a: usize,
+            b: usize,
+            out: *mut u64,
+            out_length: usize,
+        ) -> TbPacked;
+        pub fn tb_unpack(
+            mask: u64,
+            packed: *const u64,
+            length: usize,
+            a: usize,
+            b: usize,
+            out: *mut u64,
+            out_length: usize,
+        ) -> TbPacked;
     }
 }
 
@@ -131,4 +165,41 @@ pub fn tb_route_butterfly(width: u32, permutation: &[u8]) -> TbControls1 {
 pub fn tb_route_inverse(width: u32, permutation: &[u8]) -> TbControls1 {
     // Safe, as in tb_route.
     unsafe { by_pointer::tb_route_inverse(width, permutation.as_ptr(), permutation.len()) }
+}
+
+/// See [`crate::pack()`].
+#[allow(unsafe_code)]
+pub fn tb_pack(mask: u64, words: &[u64], a: usize, b: usize, out: &mut [u64]) -> TbPacked {
+    let (length, out_length) = (words.len(), out.len());
+    // Safe: answered for every two slices, which do not overlap; the first is
+    // only read, neither is kept.
+    unsafe {
+        by_pointer::tb_pack(
+            mask,
+            words.as_ptr(),
+            length,
+            a,
+            b,
+            out.as_mut_ptr(),
+            out_length,
+        )
+    }
+}
+
+/// See [`crate::unpack()`].
+#[allow(unsafe_code)]
+pub fn tb_unpack(mask: u64, packed: &[u64], a: usize, b: usize, out: &mut [u64]) -> TbPacked {
+    let (length, out_length) = (packed.len(), out.len());
+    // Safe, as in tb_pack.
+    unsafe {
+        by_pointer::tb_unpack(
+            mask,
+            packed.as_ptr(),
+            length,
+            a,
+            b,
+            out.as_mut_ptr(),
+            out_length,
+        )
+    }
 }

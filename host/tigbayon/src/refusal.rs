@@ -21,17 +21,24 @@ pub enum Refusal {
     Entry = 5,
     /// The one network named does not realise the permutation.
     NotRealised = 6,
+    /// The range begins after its end, or ends beyond the strip it cuts, or
+    /// one of the strips is longer than 2,048 words.
+    Range = 9,
+    /// The other strip is shorter than its bits need.
+    Short = 10,
 }
 
 impl Refusal {
     /// Every refusal, by rising number.
-    pub const ALL: [Refusal; 6] = [
+    pub const ALL: [Refusal; 8] = [
         Refusal::Width,
         Refusal::Above,
         Refusal::Unused,
         Refusal::Length,
         Refusal::Entry,
         Refusal::NotRealised,
+        Refusal::Range,
+        Refusal::Short,
     ];
 
     /// The number, which is part of the interface.
@@ -51,6 +58,8 @@ impl Refusal {
             Refusal::Length => "permutation not w long",
             Refusal::Entry => "permutation entry w or above, or repeated",
             Refusal::NotRealised => "permutation not realised by the one network named",
+            Refusal::Range => "range not within its strip, or a strip above 2,048 words",
+            Refusal::Short => "other strip shorter than its bits need",
         }
     }
 
@@ -77,8 +86,8 @@ mod tests {
     use super::*;
 
     #[test]
-    fn numbers_rise_from_one_and_are_read_back() {
-        for (number, refusal) in (1..).zip(Refusal::ALL) {
+    fn numbers_are_the_papers_and_are_read_back() {
+        for (number, refusal) in [1, 2, 3, 4, 5, 6, 9, 10].into_iter().zip(Refusal::ALL) {
             assert_eq!(refusal.number(), number);
             assert_eq!(Refusal::check(number), Err(refusal));
         }

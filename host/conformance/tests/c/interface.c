@@ -18,6 +18,7 @@ static void print_layouts(void)
            AT(TbControls1, stages));
     printf("TbControls2 %u: %u %u %u\n", SIZE(TbControls2), AT(TbControls2, refusal),
            AT(TbControls2, butterfly), AT(TbControls2, inverse));
+    printf("TbPacked %u: %u %u\n", SIZE(TbPacked), AT(TbPacked, refusal), AT(TbPacked, bits));
 }
 
 static void print_gathered(const char *call, TbGathered answer)
@@ -79,6 +80,49 @@ static void print_routed(void)
     printf("\n");
 }
 
+static void print_words(const uint64_t *words, int count)
+{
+    int i;
+    for (i = 0; i < count; i++) {
+        printf(" %" PRIx64, words[i]);
+    }
+    printf("\n");
+}
+
+static void print_packed(const char *call, TbPacked answer, const uint64_t *out, int count)
+{
+    printf("%s %u %" PRIu64 ":", call, (unsigned)answer.refusal, answer.bits);
+    print_words(out, count);
+}
+
+static void print_strips(void)
+{
+    uint64_t words[6] = {1, 2, 3, 4, 5, 0x9A6};
+    uint64_t packed[3] = {7, 7, 7};
+    uint64_t out[8] = {7, 7, 7, 7, 7, 7, 7, 7};
+    TbPacked answer = tb_pack(0xFFF, words, 6, 0, 6, packed, 3);
+
+    print_packed("pack", answer, packed, 3);
+    answer = tb_unpack(0xFFF, packed, 3, 1, 7, out, 8);
+    print_packed("unpack", answer, out, 8);
+    answer = tb_pack(0xFFF, words, 6, 0, 6, packed, 1);
+    print_packed("pack", answer, packed, 3);
+    answer = tb_pack(0xFFF, words, 6, 3, 2, packed, 3);
+    print_packed("pack", answer, packed, 3);
+    answer = tb_unpack(0xFFF, packed, 1, 1, 7, out, 8);
+    print_packed("unpack", answer, out, 8);
+    answer = tb_unpack(0xFFF, packed, 3, 0, SIZE_MAX, out, 8);
+    print_packed("unpack", answer, out, 8);
+    print_packed("pack", tb_pack(UINT64_MAX, NULL, 0, 0, 0, NULL, 0), NULL, 0);
+    print_packed("unpack", tb_unpack(UINT64_MAX, NULL, 0, 0, 0, NULL, 0), NULL, 0);
+    print_packed("pack", tb_pack(1, NULL, 0, 0, 1, NULL, 0), NULL, 0);
+    print_packed("pack", tb_pack(1, words, 6, 0, 1, NULL, 0), NULL, 0);
+    answer = tb_unpack(0, NULL, 0, 1, 7, out, 8);
+    print_packed("unpack", answer, out, 8);
+    printf("words:");
+    print_words(words, 6);
+}
+
 int main(void)
 {
     const uint32_t zeros[6] = {0, 0, 0, 0, 0, 0};
@@ -86,9 +130,9 @@ int main(void)
     const TbControls2 decoded = tb_decode(8, 0xAD);
 
     print_layouts();
-    printf("numbers %d %d %d %d %d %d %d\n", TB_CARRIED_OUT, TB_REFUSAL_WIDTH,
+    printf("numbers %d %d %d %d %d %d %d %d %d\n", TB_CARRIED_OUT, TB_REFUSAL_WIDTH,
            TB_REFUSAL_ABOVE, TB_REFUSAL_UNUSED, TB_REFUSAL_LENGTH, TB_REFUSAL_ENTRY,
-           TB_REFUSAL_NOT_REALISED);
+           TB_REFUSAL_NOT_REALISED, TB_REFUSAL_RANGE, TB_REFUSAL_SHORT);
     print_gathered("gather", tb_gather(8, 0xAD, 0xB6));
     print_gathered("scatter", tb_scatter(8, 0xAD, 0x1A));
     print_gathered("group", tb_group(8, 0xAD, 0xB6));
@@ -103,5 +147,6 @@ int main(void)
     print_carried("inverse", tb_inverse(8, decoded.inverse, 0xB6 & 0xAD));
     print_carried("inverse", tb_inverse(12, decoded.inverse, 0xB6));
     print_routed();
+    print_strips();
     return 0;
 }

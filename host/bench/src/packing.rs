@@ -1,0 +1,153 @@
+//! Packing strips of 12-bit colour, each word timed.
+
+use crate::bmi2;
+use crate::masks::{compress, compress_by, expand, expand_by, moves};
+use crate::networks::{decoded, delta_swaps, swaps_of};
+use crate::timing::Contest;
+use conformance::samples::{strip, Random};
+use conformance::strips::{words_needed, LONGEST};
+use std::cell::RefCell;
+use std::hint::black_box;
+
+/// Four colours of 12 bits in places of 16.
+const COLOUR: u64 = 0x0FFF_0FFF_0FFF_0FFF;
+
+/// A call of a mask and two strips: packs all words of the first, or unpacks
+/// into all words of the second. It answers the count of bits.
+pub type OfStrip = fn(u64, &[u64], &mut [u64]) -> u64;
+
+/// Pack beside its peers.
+pub fn pack(name: &str) {
+    let library: OfStrip =
+        |mask, words, out| tigbayon::pack(mask, words, 0..words.len(), out).expect("accepted");
+    let peers: [(_, OfStrip); 3] = [
+        ("the same method", |mask, words, out| {
+            let swaps = swaps_of::<true>(&decoded(mask).inverse.stages);
+            let gather = |word| delta_swaps::<true>(&swaps, word & mask);
+            pack_by(mask, words, out, gather)
+        }),
+        ("Hacker's Delight for each word", |mask, words, out| {
+            pack_by(mask, words, out, |word| compress(black_box(mask), word))
+        }),
+        ("Hacker's Delight, moves made once", |mask, words, out| {
+            let moves = moves(mask);
+            pack_by(mask, words, out, |word| compress_by(&moves, mask, word))
+        }),
+    ];
+    let bmi2 = bmi2::pack().map(|pack| ("BMI2 instruction", pack));
+    let lengths = (LONGEST, words_needed(COLOUR, 0, LONGEST));
+    contest(name, lengths, library, peers.into_iter().chain(bmi2));
+}
+
+/// Unpack beside its peers.
+pub fn unpack(name: &str) {
+    let library: OfStrip = |mask, packed, out| {
+        let all = 0..out.len();
+        tigbayon::unpack(mask, packed, all, out).expect("accepted")
+    };
+    let peers: [(_, OfStrip); 3] = [
+        ("the same method", |mask, packed, out| {
+            let swaps = swaps_of::<false>(&decoded(mask).butterfly.stages);
+            let scatter = |field| delta_swaps::<false>(&swaps, field) & mask;
+            unpack_by(mask, packed, out, scatter)
+        }),
+        ("Hacker's Delight for each word", |mask, packed, out| {
+            unpack_by(mask, packed, out, |field| expand(black_box(mask), field))
+        }),
+        ("Hacker's Delight, moves made once", |mask, packed, out| {
+            let moves = moves(mask);
+            unpack_by(mask, packed, out, |field| expand_by(&moves, mask, field))
+        }),
+    ];
+    let bmi2 = bmi2::unpack().map(|unpack| ("BMI2 instruction", unpack));
+    let lengths = (words_needed(COLOUR, 0, LONGEST), LONGEST);
+    contest(name, lengths, library, peers.into_iter().chain(bmi2));
+}
+
+/// A mask, a first strip, and a second one that every contender writes to.
+struct Strips {
+    mask: u64,
+    first: Vec<u64>,
+    second: RefCell<Vec<u64>>,
+}
+
+impl Strips {
+    fn call(&self, call: OfStrip) -> u64 {
+        call(self.mask, &self.first, &mut self.second.borrow_mut())
+    }
+
+    /// What a call answers and makes of the second strip, all ones before.
+    fn outcome(&self, call: OfStrip) -> (u64, Vec<u64>) {
+        self.second.borrow_mut().fill(u64::MAX);
+        (self.call(call), self.second.borrow().clone())
+    }
+}
+
+/// Checks each peer's strips here, its count of bits in the contest.
+fn contest(
+    name: &str,
+    (first, second): (usize, usize),
+    library: OfStrip,
+    peers: impl Iterator<Item = (&'static str, OfStrip)>,
+) {
+    let make = |random: &mut Random| Strips {
+        mask: COLOUR,
+        first: strip(random, first),
+        second: RefCell::new(vec![0; second]),
+    };
+    let sample = make(&mut Random::default());
+    let expected = sample.outcome(library);
+    let mut contest = Contest::of_parts(LONGEST, make, move |strips| strips.call(library));
+    for (name, peer) in peers {
+        assert!(sample.outcome(peer) == expected, "{name} packs alike");
+        contest = contest.peer(name, move |strips| strips.call(peer));
+    }
+    contest.print(&format!("{name}, per word"));
+}
+
+/// Appends field after field, each gathered from its word.
+#[inline(always)]
+pub fn pack_by(mask: u64, words: &[u64], out: &mut [u64], gather: impl Fn(u64) -> u64) -> u64 {
+    let k = mask.count_ones();
+    let (mut word, mut filled, mut at) = (0, 0, 0);
+    for &source in words {
+        let field = gather(source);
+        word |= field << filled;
+        filled += k;
+        if filled >= 64 {
+            out[at] = word;
+            at += 1;
+            filled -= 64;
+            // What did not fit.
+            word = field.checked_shr(k - filled).unwrap_or(0);
+        }
+    }
+    if filled > 0 {
+        out[at] = word;
+    }
+    u64::from(k) * words.len() as u64
+}
+
+/// Takes field after field, each scattered into its word. Above its k bits a
+/// field has any.
+#[inline(always)]
+pub fn unpack_by(mask: u64, packed: &[u64], out: &mut [u64], scatter: impl Fn(u64) -> u64) -> u64 {
+    let k = mask.count_ones();
+    // The bits of the last word read that are left.
+    let (mut left, mut count, mut at) = (0_u64, 0, 0);
+    for word in &mut *out {
+        let mut field = left;
+        if count < k {
+            let next = packed[at];
+            at += 1;
+            field |= next << count;
+            left = next.checked_shr(k - count).unwrap_or(0);
+            count += 64 - k;
+        } else {
+            left >>= k;
+            count -= k;
+        }
+        *word = scatter(field);
+    }
+    u64::from(k) * out.len() as u64
+}

@@ -1,0 +1,136 @@
+//! Pack and unpack beside their model.
+
+use crate::call::assert_agree;
+use crate::samples::{strip, Random};
+use model::refusal::Answer;
+use tigbayon::{Refusal, TbPacked};
+
+/// The most words of a strip.
+pub const LONGEST: usize = 2_048;
+
+/// Counts of marked bits to try: none, all, and those around a half and a whole
+/// word.
+pub const COUNTS: [u32; 8] = [0, 1, 12, 31, 32, 33, 63, 64];
+
+type OfStrips<A> = fn(u64, &[u64], usize, usize, &mut [u64]) -> A;
+
+/// A call of a mask, a first strip, numbers a and b, and a second strip, which
+/// is lent: as the archive exports it, as the wrapper offers it, and as the
+/// model defines it.
+pub struct StripCall {
+    /// The call's name.
+    pub name: &'static str,
+    cuts_first: bool,
+    raw: OfStrips<Answer<u64>>,
+    wrapped: OfStrips<Result<u64, Refusal>>,
+    model: OfStrips<Answer<u64>>,
+}
+
+/// Pack.
+pub const PACK: StripCall = StripCall {
+    name: "pack",
+    cuts_first: true,
+    raw: |mask, words, a, b, out| packed(tigbayon::tb_pack(mask, words, a, b, out)),
+    wrapped: |mask, words, a, b, out| tigbayon::pack(mask, words, a..b, out),
+    model: model::packing::pack,
+};
+
+/// Unpack.
+pub const UNPACK: StripCall = StripCall {
+    name: "unpack",
+    cuts_first: false,
+    raw: |mask, words, a, b, out| packed(tigbayon::tb_unpack(mask, words, a, b, out)),
+    wrapped: |mask, words, a, b, out| tigbayon::unpack(mask, words, a..b, out),
+    model: model::packing::unpack,
+};
+
+/// Both calls on strips.
+pub const STRIP_CALLS: [StripCall; 2] = [PACK, UNPACK];
+
+impl StripCall {
+    /// Makes the call all three ways, panics unless they agree in every part
+    /// of the answer and in every word of the second strip, hands the answer
+    /// back and leaves the strip so.
+    pub fn check(
+        &self,
+        mask: u64,
+        first: &[u64],
+        a: usize,
+        b: usize,
+        out: &mut [u64],
+    ) -> Answer<u64> {
+        let lengths = [first.len(), out.len()];
+        let input = || format!("{} {mask:x} {lengths:?} {a} {b}", self.name);
+        let (library, written) = lent(out, |out| (self.raw)(mask, first, a, b, out));
+        let (wrapped, wrapped_written) = lent(out, |out| (self.wrapped)(mask, first, a, b, out));
+        let (model, expected) = lent(out, |out| (self.model)(mask, first, a, b, out));
+        assert_agree(input, library, model, wrapped);
+        for (by, written) in [("library", written), ("wrapper", wrapped_written)] {
+            assert!(
+                written == expected,
+                "{} {first:x?} {out:x?}: {by} {written:x?}, model {expected:x?}",
+                input()
+            );
+        }
+        out.copy_from_slice(&expected[1..=out.len()]);
+        model
+    }
+
+    /// Checks that the call is refused by this number and leaves every word as
+    /// it was, or, if it is 0, that it is carried out and counts its bits.
+    pub fn assert_number(
+        &self,
+        number: u8,
+        mask: u64,
+        first: &[u64],
+        (a, b): (usize, usize),
+        out: &mut [u64],
+    ) {
+        let input = || format!("{} {mask:x} {} {a} {b}", self.name, first.len());
+        let before = out.to_vec();
+        let answer = self.check(mask, first, a, b, out);
+        assert_eq!(answer.refusal, number, "{} {}", input(), out.len());
+        if number == 0 {
+            assert_eq!(answer.result, bits(mask, a, b), "{}", input());
+        } else {
+            assert_eq!(answer, Answer::refused(number), "{}", input());
+            assert!(out == before, "{}", input());
+        }
+    }
+
+    /// Random strips, first and second, of these lengths: of the one that a and
+    /// b cut, and of the other.
+    pub fn strips(&self, random: &mut Random, cut: usize, other: usize) -> (Vec<u64>, Vec<u64>) {
+        let cut = strip(random, cut);
+        let other = strip(random, other);
+        if self.cuts_first {
+            (cut, other)
+        } else {
+            (other, cut)
+        }
+    }
+}
+
+/// The bits of the fields a to b-1.
+pub fn bits(mask: u64, a: usize, b: usize) -> u64 {
+    u64::from(mask.count_ones()) * (b - a) as u64
+}
+
+/// The words that they need.
+pub fn words_needed(mask: u64, a: usize, b: usize) -> usize {
+    bits(mask, a, b).div_ceil(64) as usize
+}
+
+/// What a call answers on a copy of the strip, and the copy then, with a word
+/// on either side that was not lent.
+fn lent<A>(strip: &[u64], call: impl FnOnce(&mut [u64]) -> A) -> (A, Vec<u64>) {
+    const NOT_LENT: &[u64] = &[0x5AA5_0FF0_3CC3_9669];
+    let mut copy = [NOT_LENT, strip, NOT_LENT].concat();
+    let answer = call(&mut copy[1..=strip.len()]);
+    (answer, copy)
+}
+
+fn packed(TbPacked { refusal, bits }: TbPacked) -> Answer<u64> {
+    let result = bits;
+    Answer { refusal, result }
+}

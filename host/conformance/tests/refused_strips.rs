@@ -1,0 +1,150 @@
+//! Damaged cuts and strips get the lowest number that applies, zero bits, and
+//! every word stays as it was.
+
+use conformance::samples::{mask_of, Random};
+use conformance::strips::{words_needed, COUNTS, LONGEST, PACK, STRIP_CALLS, UNPACK};
+
+/// The words of paper 01's case 11.
+const CASE_11: [u64; 6] = [1, 2, 3, 4, 5, 0x9A6];
+
+/// Numbers at, around and far beyond the ends of a strip of this length, among
+/// them some that a narrower integer would cut to lie within it.
+fn numbers(length: usize) -> Vec<usize> {
+    let half = 1 << (usize::BITS / 2);
+    let top = 1 << (usize::BITS - 1);
+    let mut numbers = vec![
+        0,
+        1,
+        length / 2,
+        length.saturating_sub(1),
+        length,
+        length + 1,
+    ];
+    numbers.extend([LONGEST, LONGEST + 1, 1 << 16, (1 << 16) + length]);
+    numbers.extend([half - 1, half, half + length, top - 1, top, top + length]);
+    // A count of bits that wraps around to nothing, or to a few.
+    numbers.extend([top >> 5, (top >> 5) + 1, top >> 4, (top >> 4) + 1]);
+    numbers.extend([usize::MAX - length, usize::MAX - 1, usize::MAX]);
+    numbers
+}
+
+/// A mask with each of the counts of ones.
+fn masks(random: &mut Random) -> [u64; COUNTS.len()] {
+    COUNTS.map(|count| mask_of(random, count))
+}
+
+/// The number of a call on strips of these lengths.
+fn number(mask: u64, (a, b): (usize, usize), cut: usize, other: usize) -> u8 {
+    if a > b || b > cut || cut > LONGEST || other > LONGEST {
+        9
+    } else if other < words_needed(mask, a, b) {
+        10
+    } else {
+        0
+    }
+}
+
+/// Checks both calls on random strips of these lengths.
+fn assert_number(random: &mut Random, mask: u64, cut: (usize, usize), length: usize, other: usize) {
+    for call in STRIP_CALLS {
+        let (first, mut second) = call.strips(random, length, other);
+        let number = number(mask, cut, length, other);
+        call.assert_number(number, mask, &first, cut, &mut second);
+    }
+}
+
+#[test]
+fn every_cut_that_does_not_lie_within_its_strip_is_refusal_9() {
+    let mut random = Random::default();
+    for mask in masks(&mut random) {
+        for length in [0, 1, 2, 5, 64] {
+            for a in numbers(length) {
+                for b in numbers(length) {
+                    for other in [0, 1, length, 64] {
+                        assert_number(&mut random, mask, (a, b), length, other);
+                    }
+                }
+            }
+        }
+    }
+}
+
+#[test]
+fn cuts_of_the_longest_strips() {
+    let mut random = Random::default();
+    let mask = mask_of(&mut random, 12);
+    for length in [LONGEST - 1, LONGEST, LONGEST + 1] {
+        for a in numbers(length) {
+            for b in numbers(length) {
+                assert_number(&mut random, mask, (a, b), length, 384);
+            }
+        }
+    }
+}
+
+/// Even where there is nothing to read or to write.
+#[test]
+fn either_strip_above_2048_words_is_refusal_9() {
+    let mut random = Random::default();
+    let lengths = [0, 1, LONGEST - 1, LONGEST];
+    let long = [LONGEST + 1, 2 * LONGEST, 1 << 16, (1 << 16) + 5];
+    for mask in [0, 0xFFF, u64::MAX] {
+        for cut in [(0, 0), (0, 1), (0, LONGEST), (LONGEST, LONGEST), (1, 0)] {
+            for length in lengths.into_iter().chain(long) {
+                for other in lengths.into_iter().chain(long) {
+                    assert_number(&mut random, mask, cut, length, other);
+                }
+            }
+        }
+    }
+}
+
+#[test]
+fn each_other_strip_is_refusal_10_exactly_if_too_short() {
+    let mut random = Random::default();
+    for mask in masks(&mut random) {
+        for b in 0..=12 {
+            for a in 0..=b {
+                for other in 0..=13 {
+                    assert_number(&mut random, mask, (a, b), 12, other);
+                }
+            }
+        }
+    }
+}
+
+/// The memory after a short strip would complete it.
+#[test]
+fn short_parts_of_the_other_strip_are_refusal_10() {
+    let mut random = Random::default();
+    for count in 1..=64 {
+        let mask = mask_of(&mut random, count);
+        let (words, mut other) = PACK.strips(&mut random, 64, 64);
+        for short in 0..words_needed(mask, 0, 64) {
+            PACK.assert_number(10, mask, &words, (0, 64), &mut other[..short]);
+            UNPACK.assert_number(10, mask, &words[..short], (0, 64), &mut other);
+        }
+    }
+}
+
+/// The table's own examples: "a = 3, b = 2", and "case 11 with 1 word".
+#[test]
+fn examples_of_the_table_of_refusals() {
+    for call in STRIP_CALLS {
+        call.assert_number(9, 0xFFF, &CASE_11, (3, 2), &mut [7; 6]);
+    }
+    PACK.assert_number(10, 0xFFF, &CASE_11, (0, 6), &mut [7; 1]);
+}
+
+/// 9 with 10.
+#[test]
+fn the_lowest_number_wins() {
+    PACK.assert_number(9, 0xFFF, &CASE_11, (0, 7), &mut [7; 1]);
+    PACK.assert_number(9, 0xFFF, &CASE_11, (6, 0), &mut []);
+    PACK.assert_number(9, 0xFFF, &[1; LONGEST + 1], (0, 6), &mut [7; 1]);
+    for call in STRIP_CALLS {
+        call.assert_number(9, u64::MAX, &[], (0, usize::MAX), &mut []);
+        call.assert_number(9, u64::MAX, &[], (usize::MAX, 0), &mut []);
+        call.assert_number(0, u64::MAX, &[], (0, 0), &mut []);
+    }
+}

@@ -1,0 +1,78 @@
+//! Packed fields ("Strips" of paper 01).
+
+use crate::bits::{bits_of, marked, word_of};
+use crate::refusal::{Answer, RANGE, SHORT};
+
+/// "Strips and the register unit use width 64."
+const WIDTH: usize = 64;
+
+/// "either strip above 2,048 words"
+const LONGEST: usize = 2_048;
+
+/// "It reads the words from number a up to, not including, number b. Each
+/// word's k gathered bits form a field. Field 0 begins at bit 0 of word 0 of the
+/// second strip. The next field begins at the bit after the last one, crossing
+/// into the next word where needed."
+///
+/// ```
+/// // Row 11 of paper 01.
+/// let mut out = [0; 2];
+/// let answer = model::packing::pack(0xFFF, &[1, 2, 3, 4, 5, 0x9A6], 0, 6, &mut out);
+/// assert_eq!(answer.result, 72);
+/// assert_eq!(out, [0x6005004003002001, 0x9A]);
+/// ```
+pub fn pack(mask: u64, words: &[u64], a: usize, b: usize, out: &mut [u64]) -> Answer<u64> {
+    let marked = marked(&bits_of(WIDTH, mask));
+    let conditions = conditions(marked.len(), a, b, words.len(), out.len());
+    Answer::of(&conditions, || {
+        let mut stream = Vec::new();
+        for &word in &words[a..b] {
+            let word = bits_of(WIDTH, word);
+            stream.extend(marked.iter().map(|&m| word[m]));
+        }
+        // "Spare bits of the last word written become zero; words after it keep
+        // their values."
+        for (written, bits) in out.iter_mut().zip(stream.chunks(WIDTH)) {
+            *written = word_of(bits);
+        }
+        stream.len() as u64
+    })
+}
+
+/// "Unpack reads fields so laid from the first strip, writes each scattered
+/// into words a to b-1 of the second, and keeps its other words."
+///
+/// ```
+/// let mut out = [7; 4];
+/// let answer = model::packing::unpack(0xF0, &[0x21], 1, 3, &mut out);
+/// assert_eq!(answer.result, 8);
+/// assert_eq!(out, [7, 0x10, 0x20, 7]);
+/// ```
+pub fn unpack(mask: u64, packed: &[u64], a: usize, b: usize, out: &mut [u64]) -> Answer<u64> {
+    let marked = marked(&bits_of(WIDTH, mask));
+    let conditions = conditions(marked.len(), a, b, out.len(), packed.len());
+    Answer::of(&conditions, || {
+        let mut stream = packed.iter().flat_map(|&word| bits_of(WIDTH, word));
+        let mut count = 0;
+        for written in &mut out[a..b] {
+            let mut word = vec![false; WIDTH];
+            for &m in &marked {
+                word[m] = stream.next().expect("the strip holds the bits");
+                count += 1;
+            }
+            *written = word_of(&word);
+        }
+        count
+    })
+}
+
+/// The refusals of both calls, each with whether it applies: a and b cut a
+/// strip of length `cut`, and the other one holds the k×(b-a) bits.
+fn conditions(k: usize, a: usize, b: usize, cut: usize, other: usize) -> [(u8, bool); 2] {
+    let bits = k as u128 * b.saturating_sub(a) as u128;
+    let room = WIDTH as u128 * other as u128;
+    [
+        (RANGE, a > b || b > cut || cut > LONGEST || other > LONGEST),
+        (SHORT, bits > room),
+    ]
+}

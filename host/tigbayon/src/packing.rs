@@ -1,0 +1,68 @@
+//! Strips of gathered fields, laid end to end.
+
+use crate::{ffi, Refusal};
+use std::ops::Range;
+
+/// Gathers the words of `range` by `mask` and packs their fields into `out`.
+/// Answers the count of bits, k for each word if k bits are marked.
+///
+/// The first field begins at bit 0 of the first word, each next one at the bit
+/// after the last. Spare bits of the last word written become zero; words after
+/// it stay as they were. If the call is refused, every word does.
+///
+/// # Errors
+///
+/// [`Refusal::Range`], if `range` does not lie within `words` or a strip is too
+/// long, and [`Refusal::Short`], if `out` cannot hold the bits.
+///
+/// ```
+/// use tigbayon::{pack, Refusal};
+///
+/// let words = [1, 2, 3, 4, 5, 0x9A6];
+/// let mut out = [7; 3];
+/// assert_eq!(pack(0xFFF, &words, 0..6, &mut out), Ok(72));
+/// assert_eq!(out, [0x6005_0040_0300_2001, 0x9A, 7]);
+///
+/// assert_eq!(pack(0xFFF, &words, 3..2, &mut out), Err(Refusal::Range));
+/// assert_eq!(pack(0xFFF, &words, 0..7, &mut out), Err(Refusal::Range));
+/// assert_eq!(pack(0xFFF, &words, 0..6, &mut out[..1]), Err(Refusal::Short));
+/// ```
+pub fn pack(
+    mask: u64,
+    words: &[u64],
+    range: Range<usize>,
+    out: &mut [u64],
+) -> Result<u64, Refusal> {
+    ffi::tb_pack(mask, words, range.start, range.end, out).into()
+}
+
+/// Reads fields so packed and writes each, scattered by `mask`, into the words
+/// of `range` of `out`. Answers the count of bits, as [`pack`] does.
+///
+/// Spare bits of the last word read are not looked at. The other words of `out`
+/// stay as they were. If the call is refused, every word does.
+///
+/// # Errors
+///
+/// [`Refusal::Range`], if `range` does not lie within `out` or a strip is too
+/// long, and [`Refusal::Short`], if `packed` does not hold the bits.
+///
+/// ```
+/// use tigbayon::{unpack, Refusal};
+///
+/// let packed = [0x6005_0040_0300_2001, 0x9A];
+/// let mut out = [7; 8];
+/// assert_eq!(unpack(0xFFF, &packed, 1..7, &mut out), Ok(72));
+/// assert_eq!(out, [7, 1, 2, 3, 4, 5, 0x9A6, 7]);
+///
+/// assert_eq!(unpack(0xFFF, &packed, 1..9, &mut out), Err(Refusal::Range));
+/// assert_eq!(unpack(0xFFF, &packed[1..], 1..7, &mut out), Err(Refusal::Short));
+/// ```
+pub fn unpack(
+    mask: u64,
+    packed: &[u64],
+    range: Range<usize>,
+    out: &mut [u64],
+) -> Result<u64, Refusal> {
+    ffi::tb_unpack(mask, packed, range.start, range.end, out).into()
+}
