@@ -5,7 +5,7 @@ use mathlib.Core.List.{List, [], _∷_}
 use Prim.Native.Nat.{ℕ}
 use lib.Dec.{T, eqb, eqb→eq}
 use Rattle.bits.specs.Bit.{bit, ofBits, rank, places, pick, put}
-use Rattle.network.specs.Stage.{switchOf, partner, source, stage, travel, falling, butterflyOf}
+use Rattle.network.specs.Stage.{switchOf, partner, source, stage, travel, falling, rising, butterflyOf, inverseOf}
 use Rattle.network.specs.Decoder.{turn, turned, controlAt, column, decodeOf, decodeInverseOf}
 use Rattle.network.specs.Calls.{carryRefusal, carryAnswer, decodeRefusal, decodeAnswer}
 use Rattle.gather.specs.Gather.{gatherOf, scatterOf, groupOf, refusalOf, answerOf}
@@ -20,6 +20,8 @@ use Rattle.routing.specs.Alone.{forced, butterflyControls, inverseControls, eve
 use Rattle.routing.specs.Lists.{find, controlsOf, wordOf, controlIn, butterflyWords, inverseWords, wordsOf, firstWords, butterflyFits, inverseFits, butterflyAlone, inverseAlone}
 use Rattle.permute.specs.Permutation.{absent, namesOnce}
 use Rattle.permute.specs.Calls.{routeRefusal, routeAnswer, oneRefusal, oneAnswer}
+use Rattle.unit.specs.Operation.{cyclesOf, isKind, usedOf, stepOf, loadOf}
+use Rattle.unit.specs.Run.{operationsOf, stepsOf, sumOf, ranOf, anyKind, anyRegister, runRefusal, runOf}
 use Rattle.examples.specs.Rows.{Row, outcomeOf, rows, Hold}
 
 same : List ℕ → List ℕ → Bool
@@ -59,6 +61,7 @@ unfolding allHold same outcomeOf answerOf refusalOf gatherOf scatterOf groupOf p
     weight num place at tab flip side loop.stage loop.turn least firstStage lastStage between
     forced butterflyControls inverseControls everyBelow butterflyTest inverseTest
     placed.switchOf placed.partner placed.through placed.butterfly placed.inverse
+  runOf runRefusal operationsOf stepsOf sumOf ranOf anyKind anyRegister cyclesOf isKind usedOf stepOf loadOf inverseOf rising
 test = tt
 
 -- Every marked row: its call has its outcome.

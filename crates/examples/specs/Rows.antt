@@ -11,6 +11,10 @@ use Rattle.routing.specs.Lists.{butterflyFits, butterflyAlone, inverseFits, inv
 use Rattle.permute.specs.declared.Routed.{Routed}
 use Rattle.permute.specs.declared.RoutedOne.{RoutedOne}
 use Rattle.permute.specs.Calls.{routeAnswer, oneAnswer}
+use Rattle.unit.specs.declared.Bank.{Bank}
+use Rattle.unit.specs.declared.Ran.{Ran}
+use Rattle.unit.specs.Bank.{fresh, register, withRegister}
+use Rattle.unit.specs.Run.{runOf}
 use Rattle.gather.specs.Gather.{gatherOf, scatterOf, groupOf, answerOf}
 
 -- A call of the unit, with its arguments
@@ -23,6 +27,7 @@ pub data Call : Type 0 where
   route : (w : ℕ) (entries : List ℕ) → Call
   routeButterfly : (w : ℕ) (entries : List ℕ) → Call
   routeInverse : (w : ℕ) (entries : List ℕ) → Call
+  run : (bank : Bank) (operations : List ℕ) (budget : ℕ) → Call
 
 -- the whole answer of a call as numbers, the refusal first
 abbrev pub gathered : Gathered → List ℕ
@@ -40,6 +45,10 @@ routed r = r .refusal ∷ r .butterfly .stages ++ r .inverse .stages
 abbrev pub routedOne : RoutedOne → List ℕ
 routedOne r = r .refusal ∷ r .controls .stages
 
+-- of a run, the answer and general register 1
+abbrev pub ended : Ran → List ℕ
+ended r = r .run .refusal ∷ r .run .«end» ∷ r .run .ran ∷ r .run .cycles ∷ register (r .bank) 1 ∷ []
+
 unfoldable pub outcomeOf : Call → List ℕ
 outcomeOf (gather w m x) = gathered (answerOf gatherOf w m x)
 outcomeOf (scatter w m x) = gathered (answerOf scatterOf w m x)
@@ -49,6 +58,7 @@ outcomeOf (butterfly w cs x) = carried (carryAnswer butterflyOf w (record { stag
 outcomeOf (route w es) = routed (routeAnswer w es)
 outcomeOf (routeButterfly w es) = routedOne (oneAnswer butterflyFits butterflyAlone w es)
 outcomeOf (routeInverse w es) = routedOne (oneAnswer inverseFits inverseAlone w es)
+outcomeOf (run k bytes budget) = ended (runOf k bytes budget)
 
 pub record Row : Type 0 where
   pub call : Call
@@ -62,7 +72,14 @@ zeros = 0 ∷ 0 ∷ 0 ∷ 0 ∷ 0 ∷ 0 ∷ []
 abbrev exchange14 : List ℕ
 exchange14 = 0 ∷ 4 ∷ 2 ∷ 3 ∷ 1 ∷ 5 ∷ 6 ∷ 7 ∷ []
 
--- Rows 1 to 9; row 9 is on either network
+-- rows 10 and 10b: "fresh unit but register 2 = 0xB6, register 3 = 0xAD; list 8,0,0,3, 3,1,2,3"
+abbrev loaded : Bank
+loaded = withRegister (withRegister fresh 2 0xB6) 3 0xAD
+
+abbrev decodeThenGather : List ℕ
+decodeThenGather = 8 ∷ 0 ∷ 0 ∷ 3 ∷ 3 ∷ 1 ∷ 2 ∷ 3 ∷ []
+
+-- Rows 1 to 10b; row 9 is on either network. A run's end: 1 is done, 2 is spent.
 abbrev pub rows : List Row
 rows =
     record { call = gather 8 0xAD 0xB6; outcome = 0 ∷ 0x1A ∷ [] }
@@ -75,6 +92,8 @@ rows =
     ∷ record { call = route 8 exchange14; outcome = 0 ∷ 0xD ∷ 0xF ∷ 0xF ∷ 0 ∷ 0 ∷ 0 ∷ 0xB ∷ 0xF ∷ 0xD ∷ 0 ∷ 0 ∷ 0 ∷ [] }
     ∷ record { call = routeButterfly 8 exchange14; outcome = 6 ∷ zeros }
     ∷ record { call = routeInverse 8 exchange14; outcome = 6 ∷ zeros }
+    ∷ record { call = run loaded decodeThenGather 3; outcome = 0 ∷ 1 ∷ 2 ∷ 3 ∷ 0x1A ∷ [] }
+    ∷ record { call = run loaded decodeThenGather 2; outcome = 0 ∷ 2 ∷ 1 ∷ 2 ∷ 0 ∷ [] }
     ∷ []
 
 -- every row of a list holds: its call has its outcome

@@ -7,5 +7,5 @@ ghost use Rattle.examples.specs.Rows.{rows};
 pub fn row_count() -> u32
     ensures { λ r. ⌜ r ≡ length rows ⌝ }
 {
-    10
+    12
 }

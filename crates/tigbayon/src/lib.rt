@@ -4,6 +4,8 @@ ghost use mathlib.Core.Path.{_≡_};
 ghost use Rattle.network.specs.Stage.{butterflyOf, inverseOf};
 ghost use Rattle.network.specs.Calls.{carryAnswer, decodeAnswer};
 ghost use Rattle.routing.specs.Lists.{butterflyFits, butterflyAlone, inverseFits, inverseAlone};
+ghost use Rattle.unit.specs.Run.{ranAt, runOf};
+ghost use Rattle.unit.specs.Calls.{operated, operateOf, readOf, written, writeOf};
 ghost use Rattle.pack.specs.Calls.{packAnswer, packedOut, unpackAnswer, unpackedOut};
 ghost use Rattle.permute.specs.Calls.{routeAnswer, AnswersFirst, oneAnswer};
 ghost use Rattle.gather.specs.Gather.{gatherOf, scatterOf, groupOf, answerOf};
@@ -100,4 +102,48 @@ pub extern "C" fn tb_unpack(
         × (now (out .exit) ≡ unpackedOut mask (now (packed .entry)) a b (now (out .entry))) ⌝ }
 {
     pack::unpack(mask, packed, a, b, out)
+}
+
+// One operation on a lent bank.
+#[no_mangle]
+pub extern "C" fn tb_operate(
+    bank: &mut unit::Bank,
+    kind: u8,
+    r1: u8,
+    r2: u8,
+    r3: u8,
+) -> unit::Cycles
+    ensures { λ r. ⌜ operated r (now (bank .exit)) ≡ operateOf (now (bank .entry)) kind r1 r2 r3 ⌝ }
+{
+    let after = unit::operate(*bank, kind, r1, r2, r3);
+    *bank = after.bank;
+    after.answer
+}
+
+// A run on a lent bank.
+#[no_mangle]
+pub extern "C" fn tb_run(bank: &mut unit::Bank, ops: &[u8], budget: u32) -> unit::Outcome
+    ensures { λ r. ⌜ ranAt r (now (bank .exit)) ≡ runOf (now (bank .entry)) (now (ops .entry)) budget ⌝ }
+{
+    let after = unit::run(*bank, ops, budget);
+    *bank = after.bank;
+    after.run
+}
+
+// The value of one general register of a lent bank.
+#[no_mangle]
+pub extern "C" fn tb_read(bank: &unit::Bank, number: u8) -> unit::Register
+    ensures { λ r. ⌜ r ≡ readOf (now (bank .entry)) number ⌝ }
+{
+    unit::read(*bank, number)
+}
+
+// A value into one general register of a lent bank.
+#[no_mangle]
+pub extern "C" fn tb_write(bank: &mut unit::Bank, number: u8, value: u64) -> u8
+    ensures { λ r. ⌜ written r (now (bank .exit)) ≡ writeOf (now (bank .entry)) number value ⌝ }
+{
+    let after = unit::write(*bank, number, value);
+    *bank = after.bank;
+    after.refusal
 }

@@ -1,0 +1,71 @@
+-- A run as one goes through its operations. Assumes nothing.
+use mathlib.Core.Path.{_≡_, refl, sym, _∙_, ap}
+use mathlib.Core.Bool.{Bool, true, false, cond}
+use mathlib.Core.List.{List, [], _∷_}
+use Prim.Native.Nat.{ℕ, zero, suc, _+_, _-_, _<_, _≤_}
+use native.Mathlib.Omega.{arith}
+use lib.Dec.{leb, ltb}
+use lib.ListN.{length, take}
+use borrow.Author.Tests.{le-leb, lt-leb, lt-ltb, le-ltb}
+use Rattle.unit.specs.declared.Bank.{Bank}
+use Rattle.unit.specs.declared.Ran.{Ran}
+use Rattle.unit.specs.Operation.{cyclesOf, stepOf}
+use Rattle.unit.specs.Run.{Operation, stepsOf, sumOf, ranOf, endOf, endedOf, outcomeOf}
+
+module _ (left : ℕ) (o : Operation) (os : List Operation) where
+  pub ran-fits : cyclesOf (o .0) ≤ left → ranOf left (o ∷ os) ≡ suc (ranOf (left - cyclesOf (o .0)) os)
+  unfolding ranOf
+  ran-fits h = ap (λ (b : Bool). cond b (suc (ranOf (left - cyclesOf (o .0)) os)) 0) (le-leb (cyclesOf (o .0)) left h)
+
+  pub ran-stops : left < cyclesOf (o .0) → ranOf left (o ∷ os) ≡ 0
+  unfolding ranOf
+  ran-stops h = ap (λ (b : Bool). cond b (suc (ranOf (left - cyclesOf (o .0)) os)) 0) (lt-leb (cyclesOf (o .0)) left h)
+
+-- After n operations of a run on k by os, with `rest` still to come: the bank is j and `left` is left of the budget, and to go on from there comes to the whole run.
+pub record Going (k : Bank) (os : List Operation) (budget : ℕ) (j : Bank) (left n : ℕ) (rest : List Operation) : Type 0 where
+  pub within : left ≤ budget
+  pub counts : n + ranOf left rest ≡ ranOf budget os
+  pub sums : (budget - left) + sumOf (take (ranOf left rest) rest) ≡ sumOf (take (ranOf budget os) os)
+  pub banks : stepsOf j (take (ranOf left rest) rest) ≡ stepsOf k (take (ranOf budget os) os)
+  pub lengths : n + length rest ≡ length os
+
+pub going-none : {k : Bank} {os : List Operation} {budget : ℕ} → Going k os budget k budget 0 os
+going-none = record { within = omega arith; counts = omega arith; sums = omega arith; banks = refl; lengths = omega arith }
+
+ended : {e f n m c d : ℕ} {j i : Bank} → e ≡ f → n ≡ m → c ≡ d → j ≡ i → endedOf e n c j ≡ endedOf f m d i
+ended p q r s = rw (p, q, r, s)
+
+module _ {k : Bank} {os : List Operation} {budget : ℕ} {j : Bank} {left n : ℕ} where
+  pub going-next : {o : Operation} {rest : List Operation} → Going k os budget j left n (o ∷ rest) → {c : ℕ} → c ≡ cyclesOf (o .0) → c ≤ left
+      → {i : Bank} → i ≡ stepOf j (o .0) (o .1) (o .2) (o .3) → Going k os budget i (left - c) (n + 1) rest
+  unfolding sumOf stepsOf
+  going-next {o} {rest} h {c} e l {i} f =
+      let m = ranOf (left - cyclesOf (o .0)) rest in
+      let r : ranOf left (o ∷ rest) ≡ suc m = ran-fits left o rest (omega arith) in
+      let s : (budget - left) + (cyclesOf (o .0) + sumOf (take m rest)) ≡ sumOf (take (ranOf budget os) os) = rw r at (h .sums) in
+      let b : stepsOf (stepOf j (o .0) (o .1) (o .2) (o .3)) (take m rest) ≡ stepsOf k (take (ranOf budget os) os) = rw r at (h .banks) in
+      let w = h .within in
+      let g : Going k os budget (stepOf j (o .0) (o .1) (o .2) (o .3)) (left - cyclesOf (o .0)) (n + 1) rest =
+      record { within = omega arith; counts = omega (arith, h .counts); sums = omega (arith, s); banks = b; lengths = omega (arith, h .lengths) }
+      in
+      rw (e, f) g
+
+  pub going-spent : {o : Operation} {rest : List Operation} → Going k os budget j left n (o ∷ rest) → {c : ℕ} → c ≡ cyclesOf (o .0) → left < c
+      → endedOf 2 n (budget - left) j ≡ outcomeOf k os (ranOf budget os)
+  unfolding sumOf stepsOf
+  going-spent {o} {rest} h e l =
+      let r : ranOf left (o ∷ rest) ≡ 0 = ran-stops left o rest (omega arith) in
+      let q : n + 0 ≡ ranOf budget os = rw r at (h .counts) in
+      let s : (budget - left) + 0 ≡ sumOf (take (ranOf budget os) os) = rw r at (h .sums) in
+      let b : j ≡ stepsOf k (take (ranOf budget os) os) = rw r at (h .banks) in
+      let t : ranOf budget os < length os = omega (arith, h .lengths) in
+      ended (sym (ap (λ (b : Bool). cond b 2 1) (lt-ltb (ranOf budget os) (length os) t))) (omega (arith, q)) (omega (arith, s)) b
+
+  pub going-done : Going k os budget j left n [] → endedOf 1 n (budget - left) j ≡ outcomeOf k os (ranOf budget os)
+  unfolding sumOf stepsOf ranOf
+  going-done h =
+      let q : n + 0 ≡ ranOf budget os = h .counts in
+      let s : (budget - left) + 0 ≡ sumOf (take (ranOf budget os) os) = h .sums in
+      let b : j ≡ stepsOf k (take (ranOf budget os) os) = h .banks in
+      let t : length os ≤ ranOf budget os = omega (arith, h .lengths) in
+      ended (sym (ap (λ (b : Bool). cond b 2 1) (le-ltb (ranOf budget os) (length os) t))) (omega (arith, q)) (omega (arith, s)) b

@@ -1,0 +1,110 @@
+-- The register unit's theorems, over its definitions. Assumes nothing.
+use mathlib.Core.Path.{_≡_, refl, sym, _∙_, ap}
+use mathlib.Core.Bool.{Bool, true, false, not, cond, _||_}
+use mathlib.Core.List.{List, [], _∷_, map, reverse}
+use Prim.Native.Nat.{ℕ, zero, suc, _+_, _-_, _^_, _<_, _≤_}
+use native.Mathlib.Omega.{arith}
+use native.Mathlib.Decide.{decLt}
+use lib.Bits.{bitAnd}
+use lib.Dec.{eqb, ltb}
+use lib.ListN.{length, set, take}
+use lib.Seq.{take-length}
+use borrow.Author.Tests.{eq-eqb, le-ltb, eqb-true, eqb-false}
+use Rattle.gather.specs.Gather.{gatherOf, scatterOf}
+use Rattle.network.specs.Stage.{falling, butterflyOf, inverseOf}
+use Rattle.network.specs.Decoder.{column, decodeOf, decodeInverseOf}
+use Rattle.network.proofs.Routing.{column-lt, mask-routing-gather, mask-routing-scatter}
+use Rattle.unit.specs.declared.Bank.{Bank}
+use Rattle.unit.specs.declared.Ran.{Ran}
+use Rattle.unit.specs.declared.Operated.{Operated}
+use Rattle.unit.specs.Bank.{register, stagesOf, packedOf}
+use Rattle.unit.specs.Operation.{cyclesOf, operationRefusal, stepOf}
+use Rattle.unit.specs.Calls.{operateOf}
+use Rattle.unit.specs.Run.{Operation, operationsOf, stepsOf, sumOf, ranOf, endedOf, outcomeOf, refusedOf, runRefusal, runOf}
+use Rattle.unit.proofs.Held.{stages-packed}
+use Rattle.unit.proofs.Runs.{ran-fits, ran-stops}
+
+-- A run within its budget
+
+-- all operations are run if their sum fits
+pub ran-ample : (left : ℕ) (os : List Operation) → sumOf os ≤ left → ranOf left os ≡ length os
+unfolding sumOf ranOf
+ran-ample left [] h = refl
+ran-ample left (o ∷ os) h =
+    ran-fits left o os (omega arith) ∙ ap suc (ran-ample (left - cyclesOf (o .0)) os (omega arith))
+
+-- the operations run fit
+pub ran-within : (left : ℕ) (os : List Operation) → sumOf (take (ranOf left os) os) ≤ left
+unfolding sumOf ranOf
+ran-within left [] = omega arith
+ran-within left (o ∷ os) = by-test (decLt left (cyclesOf (o .0))) (ran-within (left - cyclesOf (o .0)) os)
+  where
+    by-test : Dec (left < cyclesOf (o .0)) → sumOf (take (ranOf (left - cyclesOf (o .0)) os) os) ≤ left - cyclesOf (o .0)
+        → sumOf (take (ranOf left (o ∷ os)) (o ∷ os)) ≤ left
+    by-test (yes h) r = rw (ran-stops left o os h) (omega arith)
+    by-test (no h) r = rw (ran-fits left o os (omega arith)) (omega arith)
+
+-- and the next one, if there is one, does not: "an operation is left and does not fit"
+pub ran-next : (left : ℕ) (os : List Operation) → ranOf left os < length os → left < sumOf (take (suc (ranOf left os)) os)
+unfolding sumOf ranOf
+ran-next left [] h = absurd (omega arith)
+ran-next left (o ∷ os) h = by-test (decLt left (cyclesOf (o .0))) (ran-next (left - cyclesOf (o .0)) os)
+  where
+    by-test : Dec (left < cyclesOf (o .0))
+        → (ranOf (left - cyclesOf (o .0)) os < length os → left - cyclesOf (o .0) < sumOf (take (suc (ranOf (left - cyclesOf (o .0)) os)) os))
+        → left < sumOf (take (suc (ranOf left (o ∷ os))) (o ∷ os))
+    by-test (yes l) r = rw (ran-stops left o os l) (omega arith)
+    by-test (no l) r =
+        let e = ran-fits left o os (omega arith) in
+        let s = r (omega (arith, e)) in
+        rw e (omega (arith, s))
+
+module _ (k : Bank) (bytes : List ℕ) (budget : ℕ) where
+  abbrev os : List Operation
+  os = operationsOf bytes
+
+  run-is : runRefusal bytes ≡ 0 → runOf k bytes budget ≡ outcomeOf k os (ranOf budget os)
+  unfolding runOf
+  run-is e = rw (eq-eqb (runRefusal bytes) 0 e)
+
+  -- A run with an ample budget is its operations done one after the other.
+  pub run-ample : runRefusal bytes ≡ 0 → sumOf os ≤ budget → runOf k bytes budget ≡ endedOf 1 (length os) (sumOf os) (stepsOf k os)
+  run-ample e h = run-is e ∙ rw (ran-ample budget os h, take-length os, le-ltb (length os) (length os) (omega arith))
+
+  -- A run never uses more than its budget.
+  pub run-in-budget : runOf k bytes budget .run .cycles ≤ budget
+  unfolding runOf
+  run-in-budget = by-test (eqb (runRefusal bytes) 0)
+    where
+      by-test : (b : Bool) → cond b (outcomeOf k os (ranOf budget os)) (refusedOf k (runRefusal bytes)) .run .cycles ≤ budget
+      by-test true = ran-within budget os
+      by-test false = omega arith
+
+-- Static kinds after a decode are the variable ones
+
+module _ (m : ℕ) where
+  held : stagesOf (packedOf (decodeOf 6 m)) ≡ decodeOf 6 m
+  unfolding decodeOf falling
+  held = stages-packed _ _ _ _ _ _ (column-lt 64 m 32) (column-lt 64 m 8) (column-lt 64 m 2)
+
+  held-inverse : stagesOf (packedOf (decodeInverseOf 6 m)) ≡ decodeInverseOf 6 m
+  unfolding decodeInverseOf decodeOf falling
+  held-inverse = stages-packed _ _ _ _ _ _ (column-lt 64 m 1) (column-lt 64 m 4) (column-lt 64 m 16)
+
+module _ (k : Bank) (a b r1 r2 r3 : ℕ) (h : register k r3 < 2 ^ 64) where
+  abbrev mask : ℕ
+  mask = register k r3
+
+  -- Kind 8, then 3, is kind 6 on the general registers.
+  pub decode-then-pex : stepOf (stepOf k 8 a b r3) 3 r1 r2 r3 .general ≡ stepOf k 6 r1 r2 r3 .general
+  unfolding stepOf
+  decode-then-pex =
+      ap (set (k .general) r1)
+      (ap (λ (cs : List ℕ). inverseOf 6 cs (bitAnd (register k r2) mask)) (held-inverse mask) ∙ mask-routing-gather 6 mask (register k r2) h)
+
+  -- Kind 9, then 4, is kind 7 on the general registers.
+  pub decode-then-pdep : stepOf (stepOf k 9 a b r3) 4 r1 r2 r3 .general ≡ stepOf k 7 r1 r2 r3 .general
+  unfolding stepOf
+  decode-then-pdep =
+      ap (set (k .general) r1)
+      (ap (λ (cs : List ℕ). bitAnd (butterflyOf 6 cs (register k r2)) mask) (held mask) ∙ mask-routing-scatter 6 mask (register k r2) h)

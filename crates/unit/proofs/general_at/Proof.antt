@@ -1,0 +1,29 @@
+-- `unit::general_at` meets its contract. Assumes nothing.
+use mathlib.Core.Path.{_≡_, sym}
+use native.Mathlib.Omega.{arith}
+use lib.ListN.{length, List·getD-eq-default}
+use Prim.Native.Nat.{_≤_}
+use borrow.Author.Needs.{needs}
+use Rattle.unit.proofs.general_at.Statement.{statement}
+use Rattle.unit.proofs.general_at.Tie as tie
+use Rattle.unit.proofs.general_at.Reads as reads
+use Rattle.unit.proofs.general_at.Lts as lts
+
+returns : tie.Need-returns
+returns c =
+    let a = c .before .before .args in
+    let e : length (a .bank .general) ≡ 16 = search needs in
+    let h : length (a .bank .general) ≤ a .number = omega arith in
+    sym (List·getD-eq-default (a .bank .general) 0 h)
+
+mul-result : tie.Need-mul-result
+mul-result c = search needs
+
+array-read-result : tie.Need-array-read-result
+array-read-result c = search needs
+
+returns-2 : tie.Need-returns-2
+returns-2 c = search needs
+
+pub general-at-spec : {M : Type 1} → statement M
+general-at-spec = tie.close (tie.spec returns mul-result array-read-result returns-2)

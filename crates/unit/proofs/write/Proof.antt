@@ -1,0 +1,29 @@
+-- `unit::write` meets its contract. Assumes nothing.
+use borrow.Author.Needs.{needs}
+use borrow.Author.Tests.{eq-eqb, ne-eqb}
+use Rattle.unit.specs.Calls.{writeOf}
+use Rattle.unit.proofs.write.Statement.{statement}
+use Rattle.unit.proofs.write.Tie as tie
+use Rattle.unit.proofs.write.Reads as reads
+use Rattle.unit.proofs.write.Lts as lts
+use Rattle.unit.proofs.number_refusal.Reads as number-refusal-reads
+use Rattle.unit.proofs.with_general.Reads as with-general-reads
+
+number-refusal-requires : tie.Need-number-refusal-requires
+number-refusal-requires c κs = search needs
+
+returns : tie.Need-returns
+unfolding writeOf
+returns c = rw (← c .before .number-refusal .ensures, ne-eqb _ _ (c .if1 .taken))
+
+with-general-requires : tie.Need-with-general-requires
+with-general-requires c κs = search needs
+
+returns-2 : tie.Need-returns-2
+unfolding writeOf
+returns-2 c =
+    let b = c .before in
+    rw (← b .before .number-refusal .ensures, eq-eqb _ _ (b .if1 .left), c .with-general .ensures)
+
+pub write-spec : {M : Type 1} → statement M
+write-spec = tie.close (tie.spec number-refusal-requires returns with-general-requires returns-2)

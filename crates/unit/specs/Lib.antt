@@ -1,0 +1,4 @@
+pub mod Bank
+pub mod Operation
+pub mod Calls
+pub mod Run
