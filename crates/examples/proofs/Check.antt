@@ -61,7 +61,7 @@ unfolding allHold same outcomeOf answerOf refusalOf gatherOf scatterOf groupOf p
     weight num place at tab flip side loop.stage loop.turn least firstStage lastStage between
     forced butterflyControls inverseControls everyBelow butterflyTest inverseTest
     placed.switchOf placed.partner placed.through placed.butterfly placed.inverse
-  runOf runRefusal operationsOf stepsOf sumOf ranOf anyKind anyRegister cyclesOf isKind usedOf stepOf loadOf inverseOf rising
+    runOf runRefusal operationsOf stepsOf sumOf ranOf anyKind anyRegister cyclesOf isKind usedOf stepOf loadOf inverseOf rising
 test = tt
 
 -- Every marked row: its call has its outcome.
