@@ -14,8 +14,7 @@
  * each call ends. No function keeps state or allocates. None touches any memory
  * but what its arguments point to, and where that is const it is only read.
  *
- * Later functions (register unit) are added to this header; a refusal number,
- * once given, keeps its meaning.
+ * A refusal number, once given, keeps its meaning.
  */
 #ifndef TIGBAYON_H
 #define TIGBAYON_H
@@ -36,9 +35,12 @@ enum TbRefusal {
     TB_REFUSAL_WIDTH = 1,        /* width not 8, 16, 32, 64 */
     TB_REFUSAL_ABOVE = 2,        /* word or mask has a one at bit w or above */
     TB_REFUSAL_UNUSED = 3,       /* a one in an unused control bit or stage */
-    TB_REFUSAL_LENGTH = 4,       /* permutation not w long */
+    TB_REFUSAL_LENGTH = 4,       /* permutation not w long; run list not a multiple of 4
+                                    bytes, or above 4,096 bytes */
     TB_REFUSAL_ENTRY = 5,        /* permutation entry w or above, or repeated */
     TB_REFUSAL_NOT_REALISED = 6, /* permutation not realised by the one network named */
+    TB_REFUSAL_KIND = 7,         /* kind not 1 to 10, or in kind 5 r1 not 1 to 4 */
+    TB_REFUSAL_REGISTER = 8,     /* a register number in use above 15 */
     TB_REFUSAL_RANGE = 9,        /* a above b, b above the length of the strip that a and b
                                     cut, or either strip above 2,048 words */
     TB_REFUSAL_SHORT = 10        /* the other strip shorter than its bits need */
@@ -199,6 +201,92 @@ TbPacked tb_pack(uint64_t mask, const uint64_t *words, size_t length, size_t a, 
  */
 TbPacked tb_unpack(uint64_t mask, const uint64_t *packed, size_t length, size_t a, size_t b,
                    uint64_t *out, size_t out_length);
+
+/*
+ * The register unit, at width 64. Its registers lie in a bank that the caller
+ * owns and lends to each call; a fresh bank is all zeros. An operation is four
+ * bytes: kind, r1, r2, r3.
+ *
+ *   kind  does                                                        cycles
+ *   1     r1 = r2 through the butterfly at b                               1
+ *   2     r1 = r2 through the inverse at ib                                1
+ *   3     r1 = (r2 and r3) through the inverse at ib                       1
+ *   4     r1 = (r2 through the butterfly at b) and r3                      1
+ *   5     r1 = 1: b[0], b[1] = r2, r3;    r1 = 2: b[2] = r2;
+ *         r1 = 3: ib[0], ib[1] = r2, r3;  r1 = 4: ib[2] = r2               1
+ *   6     r1 = r2 gathered by r3                                           3
+ *   7     r1 = r2 scattered by r3                                          3
+ *   8     ib = the inverse's controls decoded from r3                      2
+ *   9     b = the butterfly's controls decoded from r3                     2
+ *   10    r1 = r2 grouped by r3                                            3
+ *
+ * But for r1 in kind 5, r1, r2 and r3 are numbers of general registers. Those
+ * that the table names for a kind are in use; the other bytes are not looked
+ * at. Operands are read before the result is written, and all other registers
+ * stay as they were. A refused call leaves every register as it was.
+ */
+
+/* The registers: b and ib hold controls of the butterfly and of the inverse. */
+typedef struct {
+    uint64_t general[16]; /* general registers 0 to 15 */
+    uint64_t b[3];        /* b[0]: stage 0 in its low half, stage 1 in its high half, .. */
+    uint64_t ib[3];       /* likewise */
+} TbBank;
+
+/* The answer of tb_operate. */
+typedef struct {
+    uint8_t refusal; /* an enum TbRefusal */
+    uint32_t cycles; /* the operation's; 0 if the call is refused */
+} TbCycles;
+
+/* How a run ends. */
+enum TbEnd {
+    TB_END_REFUSED = 0, /* nothing was run */
+    TB_END_DONE = 1,    /* no operation is left */
+    TB_END_SPENT = 2    /* an operation is left and does not fit */
+};
+
+/* The answer of tb_run. */
+typedef struct {
+    uint8_t refusal; /* an enum TbRefusal */
+    uint8_t end;     /* an enum TbEnd */
+    uint32_t ran;    /* the count of operations run; 0 if the call is refused */
+    uint32_t cycles; /* the sum of their cycles; 0 if the call is refused */
+} TbRun;
+
+/* The answer of tb_read. */
+typedef struct {
+    uint8_t refusal; /* an enum TbRefusal */
+    uint64_t value;  /* the register's; 0 if the call is refused */
+} TbRegister;
+
+/*
+ * Operate: one operation.
+ * Refusals: TB_REFUSAL_KIND, TB_REFUSAL_REGISTER.
+ */
+TbCycles tb_operate(TbBank *bank, uint8_t kind, uint8_t r1, uint8_t r2, uint8_t r3);
+
+/*
+ * Run: a list of operations, `length` bytes, one after the other, while the
+ * next one's cycles fit in what is left of the budget. It is spent if an
+ * operation is left and does not fit, or else done; the empty list is done. The
+ * whole list is checked before its first operation, whatever the budget. The
+ * list must not overlap the bank.
+ * Refusals: TB_REFUSAL_LENGTH, TB_REFUSAL_KIND, TB_REFUSAL_REGISTER.
+ */
+TbRun tb_run(TbBank *bank, const uint8_t *operations, size_t length, uint32_t budget);
+
+/*
+ * Read: the value of a general register.
+ * Refusals: TB_REFUSAL_REGISTER.
+ */
+TbRegister tb_read(const TbBank *bank, uint8_t number);
+
+/*
+ * Write: the value into a general register. Answers an enum TbRefusal.
+ * Refusals: TB_REFUSAL_REGISTER.
+ */
+uint8_t tb_write(TbBank *bank, uint8_t number, uint64_t value);
 
 #ifdef __cplusplus
 }

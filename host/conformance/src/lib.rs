@@ -3,9 +3,11 @@
 pub mod call;
 pub mod controls;
 pub mod permutations;
+pub mod programs;
 pub mod refusals;
 pub mod samples;
 pub mod strips;
+pub mod unit;
 
 /// The accepted widths.
 pub const WIDTHS: [u32; 4] = [8, 16, 32, 64];

@@ -4,7 +4,8 @@
 use std::mem::{offset_of, size_of};
 use std::path::Path;
 use std::process::Command;
-use tigbayon::{Refusal, TbCarried, TbControls1, TbControls2, TbGathered, TbPacked};
+use tigbayon::{Refusal, TbBank, TbCarried, TbControls1, TbControls2};
+use tigbayon::{TbCycles, TbGathered, TbPacked, TbRegister, TbRun};
 
 const CRATE: &str = env!("CARGO_MANIFEST_DIR");
 
@@ -22,6 +23,24 @@ const STRIPS: &str = "\
     pack 10 0:\n\
     unpack 0 0: 7 0 0 0 0 0 0 7\n\
     words: 1 2 3 4 5 9a6\n";
+
+/// What it prints of the register unit.
+const UNIT: &str = "\
+    ends 0 1 2\n\
+    write 0\n\
+    write 0\n\
+    run 0 1 2 3: 1a\n\
+    run 0 2 1 2: 0\n\
+    run 4 0 0 0: 0\n\
+    run 0 1 0 0: 0\n\
+    run 0 2 0 0: 0\n\
+    operate 0 3: 7ffffffffffffffa\n\
+    operate 7 0: 7ffffffffffffffa\n\
+    operate 8 0: 7ffffffffffffffa\n\
+    read 0 ad\n\
+    read 8 0\n\
+    write 8\n\
+    list: 8 0 0 3 3 1 2 3\n";
 
 /// Compiles tests/c/interface.c with the archive and answers what it prints.
 fn compile_and_run(compiler: &str, language: &str, standard: &str) -> String {
@@ -59,6 +78,10 @@ fn layouts() -> String {
         + &layout!(TbControls1, refusal, stages)
         + &layout!(TbControls2, refusal, butterfly, inverse)
         + &layout!(TbPacked, refusal, bits)
+        + &layout!(TbBank, general, b, ib)
+        + &layout!(TbCycles, refusal, cycles)
+        + &layout!(TbRun, refusal, end, ran, cycles)
+        + &layout!(TbRegister, refusal, value)
 }
 
 fn expected() -> String {
@@ -91,7 +114,7 @@ fn expected() -> String {
         permutation 0 4 2 3 1 5 6 7\n";
     let layouts = layouts();
     let numbers = numbers.concat();
-    format!("{layouts}numbers 0{numbers}\n{answers}{STRIPS}")
+    format!("{layouts}numbers 0{numbers}\n{answers}{STRIPS}{UNIT}")
 }
 
 #[test]

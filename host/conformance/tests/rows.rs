@@ -2,6 +2,7 @@
 
 use conformance::call::{decode, route, BUTTERFLY, GATHER, GROUP, ROUTE_ONE, SCATTER};
 use conformance::strips::PACK;
+use conformance::unit::{run, Bank, End, Run};
 use model::refusal::Answer;
 
 #[test]
@@ -59,6 +60,29 @@ fn row_9_either_network_alone() {
         let answer = routing.check(8, &BITS_1_AND_4_SWAPPED, ());
         assert_eq!(answer, Answer::refused(6));
     }
+}
+
+/// The list of rows 10 and 10b, run on their unit with this budget: the answer,
+/// and register 1.
+fn run_of_row_10(budget: u32) -> (Run, u64) {
+    let mut bank = Bank::default();
+    bank.general[2] = 0xB6;
+    bank.general[3] = 0xAD;
+    let answer = run(&mut bank, &[8, 0, 0, 3, 3, 1, 2, 3], budget);
+    assert_eq!(answer.refusal, 0);
+    (answer.result, bank.general[1])
+}
+
+#[test]
+fn row_10_run() {
+    let (end, ran, cycles) = (End::Done, 2, 3);
+    assert_eq!(run_of_row_10(3), (Run { end, ran, cycles }, 0x1A));
+}
+
+#[test]
+fn row_10b_run_with_less() {
+    let (end, ran, cycles) = (End::Spent, 1, 2);
+    assert_eq!(run_of_row_10(2), (Run { end, ran, cycles }, 0));
 }
 
 #[test]

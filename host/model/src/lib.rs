@@ -13,3 +13,4 @@ pub mod packing;
 pub mod permutation;
 pub mod refusal;
 pub mod routing;
+pub mod unit;

@@ -8,12 +8,17 @@ pub const WIDTH: u8 = 1;
 pub const ABOVE: u8 = 2;
 /// "a one in an unused setting bit or column"
 pub const UNUSED: u8 = 3;
-/// "order not w long"
+/// "order not w long; run list not a multiple of 4 bytes, or above 4,096
+/// bytes"
 pub const LENGTH: u8 = 4;
 /// "order entry w or above, or repeated"
 pub const ENTRY: u8 = 5;
 /// "order not realised by the one network named"
 pub const NOT_REALISED: u8 = 6;
+/// "kind not 1 to 10, or in kind 5 r1 not 1 to 4"
+pub const KIND: u8 = 7;
+/// "a register number in use above 15"
+pub const REGISTER: u8 = 8;
 /// "a above b, b above the length of the strip that a and b cut, or either
 /// strip above 2,048 words"
 pub const RANGE: u8 = 9;

@@ -1,6 +1,7 @@
 //! The declarations of include/tigbayon.h.
 
-use crate::{Controls, Decoded, Refusal, Routed};
+pub use crate::unit::Bank as TbBank;
+use crate::{Controls, Decoded, End, Refusal, Routed, Run};
 
 /// The answer of gather, scatter and group.
 #[repr(C)]
@@ -55,6 +56,40 @@ pub struct TbPacked {
     pub bits: u64,
 }
 
+/// The answer of one operation.
+#[repr(C)]
+#[derive(Clone, Copy, Debug, PartialEq, Eq)]
+pub struct TbCycles {
+    /// The refusal's number, 0 where the call is carried out.
+    pub refusal: u8,
+    /// The operation's cycles; 0 where the call is refused.
+    pub cycles: u32,
+}
+
+/// The answer of a run.
+#[repr(C)]
+#[derive(Clone, Copy, Debug, PartialEq, Eq)]
+pub struct TbRun {
+    /// The refusal's number, 0 where the call is carried out.
+    pub refusal: u8,
+    /// The number of its end; 0 where the call is refused.
+    pub end: u8,
+    /// The count of operations run; 0 where the call is refused.
+    pub ran: u32,
+    /// The cycles that these used; 0 where the call is refused.
+    pub cycles: u32,
+}
+
+/// The answer of reading a register.
+#[repr(C)]
+#[derive(Clone, Copy, Debug, PartialEq, Eq)]
+pub struct TbRegister {
+    /// The refusal's number, 0 where the call is carried out.
+    pub refusal: u8,
+    /// The register's value; 0 where the call is refused.
+    pub value: u64,
+}
+
 impl From<TbGathered> for Result<u64, Refusal> {
     fn from(answer: TbGathered) -> Self {
         Refusal::check(answer.refusal).map(|()| answer.word)
@@ -97,8 +132,30 @@ impl From<TbPacked> for Result<u64, Refusal> {
     }
 }
 
+impl From<TbCycles> for Result<u32, Refusal> {
+    fn from(answer: TbCycles) -> Self {
+        Refusal::check(answer.refusal).map(|()| answer.cycles)
+    }
+}
+
+impl From<TbRun> for Result<Run, Refusal> {
+    fn from(answer: TbRun) -> Self {
+        Refusal::check(answer.refusal).map(|()| Run {
+            end: End::of(answer.end),
+            ran: answer.ran,
+            cycles: answer.cycles,
+        })
+    }
+}
+
+impl From<TbRegister> for Result<u64, Refusal> {
+    fn from(answer: TbRegister) -> Self {
+        Refusal::check(answer.refusal).map(|()| answer.value)
+    }
+}
+
 // Safe: answered for every input, and a reference points to as many numbers as
-// the header asks for; none is written through or kept.
+// the header asks for; none is kept, and only a bank's `&mut` is written through.
 #[allow(unsafe_code)]
 unsafe extern "C" {
     /// See [`crate::gather()`].
@@ -113,11 +170,18 @@ unsafe extern "C" {
     pub safe fn tb_inverse(width: u32, stages: &[u32; 6], word: u64) -> TbCarried;
     /// See [`crate::decode()`].
     pub safe fn tb_decode(width: u32, mask: u64) -> TbControls2;
+    /// See [`crate::Bank::operate()`].
+    pub safe fn tb_operate(bank: &mut TbBank, kind: u8, r1: u8, r2: u8, r3: u8) -> TbCycles;
+    /// See [`crate::Bank::read()`].
+    pub safe fn tb_read(bank: &TbBank, number: u8) -> TbRegister;
+    /// See [`crate::Bank::write()`].
+    pub safe fn tb_write(bank: &mut TbBank, number: u8, value: u64) -> u8;
 }
 
-/// The calls of a permutation or of strips, which cross as a pointer and a length.
+/// The calls of a permutation, of strips or of a list, which cross as a pointer
+/// and a length.
 mod by_pointer {
-    use super::{TbControls1, TbControls2, TbPacked};
+    use super::{TbBank, TbControls1, TbControls2, TbPacked, TbRun};
 
     #[allow(unsafe_code)]
     unsafe extern "C" {
@@ -143,6 +207,12 @@ mod by_pointer {
             out: *mut u64,
             out_length: usize,
         ) -> TbPacked;
+        pub fn tb_run(
+            bank: &mut TbBank,
+            operations: *const u8,
+            length: usize,
+            budget: u32,
+        ) -> TbRun;
     }
 }
 
@@ -202,4 +272,12 @@ pub fn tb_unpack(mask: u64, packed: &[u64], a: usize, b: usize, out: &mut [u64])
             out_length,
         )
     }
+}
+
+/// See [`crate::Bank::run()`].
+#[allow(unsafe_code)]
+pub fn tb_run(bank: &mut TbBank, operations: &[u8], budget: u32) -> TbRun {
+    // Safe: answered for every slice, which the bank does not overlap; it is
+    // only read, neither is kept.
+    unsafe { by_pointer::tb_run(bank, operations.as_ptr(), operations.len(), budget) }
 }

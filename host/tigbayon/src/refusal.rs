@@ -15,12 +15,17 @@ pub enum Refusal {
     Above = 2,
     /// The controls have a one in an unused bit or stage.
     Unused = 3,
-    /// The permutation has not w entries.
+    /// The permutation has not w entries, or the list of a run is not a multiple
+    /// of 4 bytes long, or is longer than 4,096 bytes.
     Length = 4,
     /// An entry of the permutation is w or above, or repeated.
     Entry = 5,
     /// The one network named does not realise the permutation.
     NotRealised = 6,
+    /// The kind is not 1 to 10, or in kind 5 r1 is not 1 to 4.
+    Kind = 7,
+    /// The number of a register in use is above 15.
+    Register = 8,
     /// The range begins after its end, or ends beyond the strip it cuts, or
     /// one of the strips is longer than 2,048 words.
     Range = 9,
@@ -30,13 +35,15 @@ pub enum Refusal {
 
 impl Refusal {
     /// Every refusal, by rising number.
-    pub const ALL: [Refusal; 8] = [
+    pub const ALL: [Refusal; 10] = [
         Refusal::Width,
         Refusal::Above,
         Refusal::Unused,
         Refusal::Length,
         Refusal::Entry,
         Refusal::NotRealised,
+        Refusal::Kind,
+        Refusal::Register,
         Refusal::Range,
         Refusal::Short,
     ];
@@ -55,9 +62,13 @@ impl Refusal {
             Refusal::Width => "width not 8, 16, 32, 64",
             Refusal::Above => "word or mask has a one at bit w or above",
             Refusal::Unused => "a one in an unused control bit or stage",
-            Refusal::Length => "permutation not w long",
+            Refusal::Length => {
+                "permutation not w long, or list not a multiple of 4 up to 4,096 bytes"
+            }
             Refusal::Entry => "permutation entry w or above, or repeated",
             Refusal::NotRealised => "permutation not realised by the one network named",
+            Refusal::Kind => "kind not 1 to 10, or in kind 5 r1 not 1 to 4",
+            Refusal::Register => "register number in use above 15",
             Refusal::Range => "range not within its strip, or a strip above 2,048 words",
             Refusal::Short => "other strip shorter than its bits need",
         }
@@ -87,7 +98,7 @@ mod tests {
 
     #[test]
     fn numbers_are_the_papers_and_are_read_back() {
-        for (number, refusal) in [1, 2, 3, 4, 5, 6, 9, 10].into_iter().zip(Refusal::ALL) {
+        for (number, refusal) in (1..).zip(Refusal::ALL) {
             assert_eq!(refusal.number(), number);
             assert_eq!(Refusal::check(number), Err(refusal));
         }

@@ -19,6 +19,13 @@ static void print_layouts(void)
     printf("TbControls2 %u: %u %u %u\n", SIZE(TbControls2), AT(TbControls2, refusal),
            AT(TbControls2, butterfly), AT(TbControls2, inverse));
     printf("TbPacked %u: %u %u\n", SIZE(TbPacked), AT(TbPacked, refusal), AT(TbPacked, bits));
+    printf("TbBank %u: %u %u %u\n", SIZE(TbBank), AT(TbBank, general), AT(TbBank, b),
+           AT(TbBank, ib));
+    printf("TbCycles %u: %u %u\n", SIZE(TbCycles), AT(TbCycles, refusal), AT(TbCycles, cycles));
+    printf("TbRun %u: %u %u %u %u\n", SIZE(TbRun), AT(TbRun, refusal), AT(TbRun, end),
+           AT(TbRun, ran), AT(TbRun, cycles));
+    printf("TbRegister %u: %u %u\n", SIZE(TbRegister), AT(TbRegister, refusal),
+           AT(TbRegister, value));
 }
 
 static void print_gathered(const char *call, TbGathered answer)
@@ -123,6 +130,55 @@ static void print_strips(void)
     print_words(words, 6);
 }
 
+static void print_run(TbRun answer, const TbBank *bank)
+{
+    printf("run %u %u %" PRIu32 " %" PRIu32 ": %" PRIx64 "\n", (unsigned)answer.refusal,
+           (unsigned)answer.end, answer.ran, answer.cycles, bank->general[1]);
+}
+
+static void print_operated(TbCycles answer, const TbBank *bank)
+{
+    printf("operate %u %" PRIu32 ": %" PRIx64 "\n", (unsigned)answer.refusal, answer.cycles,
+           bank->general[1]);
+}
+
+static void print_register(TbRegister answer)
+{
+    printf("read %u %" PRIx64 "\n", (unsigned)answer.refusal, answer.value);
+}
+
+static void print_unit(void)
+{
+    const TbBank fresh = {{0}, {0}, {0}};
+    uint8_t list[8] = {8, 0, 0, 3, 3, 1, 2, 3};
+    TbBank bank = fresh;
+    TbBank other;
+    int i;
+
+    printf("ends %d %d %d\n", TB_END_REFUSED, TB_END_DONE, TB_END_SPENT);
+    printf("write %u\n", (unsigned)tb_write(&bank, 2, 0xB6));
+    printf("write %u\n", (unsigned)tb_write(&bank, 3, 0xAD));
+    other = bank;
+    print_run(tb_run(&other, list, 8, 3), &other);
+    print_run(tb_run(&bank, list, 8, 2), &bank);
+    print_run(tb_run(&bank, list, 5, 3), &bank);
+    print_run(tb_run(&bank, NULL, 0, 0), &bank);
+    print_run(tb_run(&bank, list, 8, 0), &bank);
+    bank.general[2] = 0xFFFFFFFFFFFFFFB6;
+    bank.general[3] = 0xFFFFFFFFFFFFFFAD;
+    print_operated(tb_operate(&bank, 10, 1, 2, 3), &bank);
+    print_operated(tb_operate(&bank, 0, 1, 2, 3), &bank);
+    print_operated(tb_operate(&bank, 10, 1, 2, 16), &bank);
+    print_register(tb_read(&other, 3));
+    print_register(tb_read(&other, 16));
+    printf("write %u\n", (unsigned)tb_write(&bank, 16, 7));
+    printf("list:");
+    for (i = 0; i < 8; i++) {
+        printf(" %u", (unsigned)list[i]);
+    }
+    printf("\n");
+}
+
 int main(void)
 {
     const uint32_t zeros[6] = {0, 0, 0, 0, 0, 0};
@@ -130,9 +186,10 @@ int main(void)
     const TbControls2 decoded = tb_decode(8, 0xAD);
 
     print_layouts();
-    printf("numbers %d %d %d %d %d %d %d %d %d\n", TB_CARRIED_OUT, TB_REFUSAL_WIDTH,
+    printf("numbers %d %d %d %d %d %d %d %d %d %d %d\n", TB_CARRIED_OUT, TB_REFUSAL_WIDTH,
            TB_REFUSAL_ABOVE, TB_REFUSAL_UNUSED, TB_REFUSAL_LENGTH, TB_REFUSAL_ENTRY,
-           TB_REFUSAL_NOT_REALISED, TB_REFUSAL_RANGE, TB_REFUSAL_SHORT);
+           TB_REFUSAL_NOT_REALISED, TB_REFUSAL_KIND, TB_REFUSAL_REGISTER, TB_REFUSAL_RANGE,
+           TB_REFUSAL_SHORT);
     print_gathered("gather", tb_gather(8, 0xAD, 0xB6));
     print_gathered("scatter", tb_scatter(8, 0xAD, 0x1A));
     print_gathered("group", tb_group(8, 0xAD, 0xB6));
@@ -148,5 +205,6 @@ int main(void)
     print_carried("inverse", tb_inverse(12, decoded.inverse, 0xB6));
     print_routed();
     print_strips();
+    print_unit();
     return 0;
 }

@@ -1,0 +1,151 @@
+//! The register unit beside its model.
+
+use crate::call::assert_agree;
+use model::refusal::Answer;
+pub use model::unit::{Bank, End, Operation, Run};
+use std::fmt::Debug;
+use tigbayon::{Refusal, TbBank, TbCycles, TbRegister, TbRun};
+
+/// Performs one operation all three ways, panics unless they agree in the
+/// answer and in every register, hands the answer back and leaves the bank so.
+pub fn operate(bank: &mut Bank, operation: Operation) -> Answer<u32> {
+    let [kind, r1, r2, r3] = operation;
+    let call = UnitCall {
+        raw: |bank: &mut TbBank| cycles(tigbayon::tb_operate(bank, kind, r1, r2, r3)),
+        wrapped: |bank: &mut tigbayon::Bank| bank.operate(kind, r1, r2, r3),
+        model: |bank: &mut Bank| model::unit::operate(bank, operation),
+    };
+    call.check(|| format!("operate {operation:?}"), bank)
+}
+
+/// Runs a list, checked likewise.
+pub fn run(bank: &mut Bank, list: &[u8], budget: u32) -> Answer<Run> {
+    let call = UnitCall {
+        raw: |bank: &mut TbBank| ran(tigbayon::tb_run(bank, list, budget)),
+        wrapped: |bank: &mut tigbayon::Bank| bank.run(list, budget).map(wrapped_run),
+        model: |bank: &mut Bank| model::unit::run(bank, list, budget),
+    };
+    call.check(|| format!("run {list:?} {budget}"), bank)
+}
+
+/// Reads a register, checked likewise; the bank must stay as it is.
+pub fn read(bank: &Bank, number: u8) -> Answer<u64> {
+    let call = UnitCall {
+        raw: |bank: &mut TbBank| register(tigbayon::tb_read(bank, number)),
+        wrapped: |bank: &mut tigbayon::Bank| bank.read(number),
+        model: |bank: &mut Bank| model::unit::read(bank, number),
+    };
+    call.check(|| format!("read {number}"), &mut bank.clone())
+}
+
+/// Writes a register, checked likewise.
+pub fn write(bank: &mut Bank, number: u8, value: u64) -> Answer<()> {
+    let call = UnitCall {
+        raw: |bank: &mut TbBank| Answer {
+            refusal: tigbayon::tb_write(bank, number, value),
+            result: (),
+        },
+        wrapped: |bank: &mut tigbayon::Bank| bank.write(number, value),
+        model: |bank: &mut Bank| model::unit::write(bank, number, value),
+    };
+    call.check(|| format!("write {number} {value:x}"), bank)
+}
+
+/// Checks that a call on the bank is refused by this number, with zeros for the
+/// rest, and leaves every register as it was; or, if the number is 0, that it
+/// is carried out.
+pub fn assert_number<R>(number: u8, bank: &Bank, call: impl FnOnce(&mut Bank) -> Answer<R>)
+where
+    R: Debug + Default + PartialEq,
+{
+    let mut after = *bank;
+    let answer = call(&mut after);
+    assert_eq!(answer.refusal, number);
+    if number != 0 {
+        assert_eq!(answer, Answer::refused(number));
+        assert_eq!(after, *bank, "refusal {number}");
+    }
+}
+
+/// The registers as the library has them.
+pub fn lent(bank: &Bank) -> tigbayon::Bank {
+    let Bank { general, b, ib } = *bank;
+    tigbayon::Bank { general, b, ib }
+}
+
+/// A call on a bank: as the archive exports it, as the wrapper offers it, and
+/// as the model defines it.
+struct UnitCall<L, W, M> {
+    raw: L,
+    wrapped: W,
+    model: M,
+}
+
+impl<L, W, M> UnitCall<L, W, M> {
+    fn check<R>(self, name: impl Fn() -> String, bank: &mut Bank) -> Answer<R>
+    where
+        R: Copy + Debug + PartialEq,
+        L: FnOnce(&mut TbBank) -> Answer<R>,
+        W: FnOnce(&mut tigbayon::Bank) -> Result<R, Refusal>,
+        M: FnOnce(&mut Bank) -> Answer<R>,
+    {
+        let input = || format!("{} {bank:x?}", name());
+        let (library, after) = guarded(bank, self.raw);
+        let (wrapped, wrapped_after) = guarded(bank, self.wrapped);
+        let mut expected = *bank;
+        let model = (self.model)(&mut expected);
+        assert_agree(input, library, model, wrapped);
+        for (by, after) in [("library", after), ("wrapper", wrapped_after)] {
+            assert!(
+                after == lent(&expected),
+                "{}: {by} {after:x?}, model {expected:x?}",
+                input()
+            );
+        }
+        *bank = expected;
+        model
+    }
+}
+
+/// What a call answers on a copy of the bank, and the copy then; a word on
+/// either side, which is not lent, must stay.
+fn guarded<A>(bank: &Bank, call: impl FnOnce(&mut TbBank) -> A) -> (A, TbBank) {
+    const NOT_LENT: u64 = 0x5AA5_0FF0_3CC3_9669;
+    #[repr(C)]
+    struct Guarded(u64, TbBank, u64);
+    let mut copy = Guarded(NOT_LENT, lent(bank), NOT_LENT);
+    let answer = call(&mut copy.1);
+    assert_eq!([copy.0, copy.2], [NOT_LENT; 2]);
+    (answer, copy.1)
+}
+
+fn cycles(TbCycles { refusal, cycles }: TbCycles) -> Answer<u32> {
+    let result = cycles;
+    Answer { refusal, result }
+}
+
+fn register(TbRegister { refusal, value }: TbRegister) -> Answer<u64> {
+    let result = value;
+    Answer { refusal, result }
+}
+
+fn ran(answer: TbRun) -> Answer<Run> {
+    let TbRun {
+        refusal,
+        end,
+        ran,
+        cycles,
+    } = answer;
+    let ends = [End::Refused, End::Done, End::Spent];
+    let end = ends[usize::from(end)];
+    let result = Run { end, ran, cycles };
+    Answer { refusal, result }
+}
+
+fn wrapped_run(tigbayon::Run { end, ran, cycles }: tigbayon::Run) -> Run {
+    let end = match end {
+        tigbayon::End::Done => End::Done,
+        tigbayon::End::Spent => End::Spent,
+    };
+    Run { end, ran, cycles }
+}

@@ -1,0 +1,193 @@
+//! The register unit ("The register unit" of paper 01).
+
+use crate::decoder::decode;
+use crate::gather::{gather, group, scatter};
+use crate::network::{butterfly, inverse, Controls};
+use crate::refusal::{Answer, KIND, LENGTH, REGISTER};
+use std::array;
+
+/// "Strips and the register unit use width 64."
+const WIDTH: u32 = 64;
+
+/// "run list [..] above 4,096 bytes"
+const LONGEST: usize = 4_096;
+
+/// "There are sixteen general registers 0 to 15 and six settings registers b1
+/// to b3, ib1 to ib3, each of 64 bits, all zero when fresh."
+#[derive(Clone, Copy, Debug, Default, PartialEq, Eq)]
+pub struct Bank {
+    /// The general registers.
+    pub general: [u64; 16],
+    /// b1 to b3.
+    pub b: [u64; 3],
+    /// ib1 to ib3.
+    pub ib: [u64; 3],
+}
+
+/// "An operation is four bytes: kind, r1, r2, r3."
+pub type Operation = [u8; 4];
+
+/// How a run ends.
+#[derive(Clone, Copy, Debug, Default, PartialEq, Eq)]
+pub enum End {
+    /// It was refused.
+    #[default]
+    Refused,
+    /// No operation is left.
+    Done,
+    /// "an operation is left and does not fit"
+    Spent,
+}
+
+/// "It answers done or spent, the operations run, and the cycles."
+#[derive(Clone, Copy, Debug, Default, PartialEq, Eq)]
+pub struct Run {
+    /// How it ended.
+    pub end: End,
+    /// The operations run.
+    pub ran: u32,
+    /// The cycles used.
+    pub cycles: u32,
+}
+
+/// "One operation alone answers its cycles."
+///
+/// ```
+/// use model::unit::{operate, Bank};
+///
+/// // "A fresh unit's kind 1 reverses the word."
+/// let mut bank = Bank::default();
+/// bank.general[2] = 1;
+/// assert_eq!(operate(&mut bank, [1, 0, 2, 0]).result, 1);
+/// assert_eq!(bank.general[0], 1 << 63);
+/// ```
+pub fn operate(bank: &mut Bank, operation: Operation) -> Answer<u32> {
+    Answer::of(&conditions(&[operation]), || {
+        *bank = performed(bank, operation);
+        cycles(operation)
+    })
+}
+
+/// "A run takes a list of operations and a budget, any 32-bit count. It goes
+/// on while the next operation's cycles fit in what is left."
+///
+/// ```
+/// use model::unit::{run, Bank, End, Run};
+///
+/// // Rows 10 and 10b of paper 01.
+/// let list = [8, 0, 0, 3, 3, 1, 2, 3];
+/// for (budget, end, ran, register_1) in [(3, End::Done, 2, 0x1A), (2, End::Spent, 1, 0)] {
+///     let mut bank = Bank::default();
+///     (bank.general[2], bank.general[3]) = (0xB6, 0xAD);
+///     let cycles = budget;
+///     assert_eq!(run(&mut bank, &list, budget).result, Run { end, ran, cycles });
+///     assert_eq!(bank.general[1], register_1);
+/// }
+/// ```
+pub fn run(bank: &mut Bank, list: &[u8], budget: u32) -> Answer<Run> {
+    let operations = list.chunks_exact(4);
+    let operations: Vec<Operation> = operations.map(|o| [o[0], o[1], o[2], o[3]]).collect();
+    let [kind, register] = conditions(&operations);
+    let length = list.len() % 4 != 0 || list.len() > LONGEST;
+    Answer::of(&[(LENGTH, length), kind, register], || {
+        let (mut ran, mut used) = (0, 0);
+        for operation in operations {
+            if cycles(operation) > budget - used {
+                let (end, cycles) = (End::Spent, used);
+                return Run { end, ran, cycles };
+            }
+            *bank = performed(bank, operation);
+            ran += 1;
+            used += cycles(operation);
+        }
+        let (end, cycles) = (End::Done, used);
+        Run { end, ran, cycles }
+    })
+}
+
+/// "The host may also read or write one general register by number; a read
+/// answers the value"
+pub fn read(bank: &Bank, number: u8) -> Answer<u64> {
+    let conditions = [(REGISTER, number > 15)];
+    Answer::of(&conditions, || bank.general[usize::from(number)])
+}
+
+/// "a write nothing more than that it was carried out"
+pub fn write(bank: &mut Bank, number: u8, value: u64) -> Answer<()> {
+    Answer::of(&[(REGISTER, number > 15)], || {
+        bank.general[usize::from(number)] = value;
+    })
+}
+
+/// "kind not 1 to 10, or in kind 5 r1 not 1 to 4"; "a register number in use
+/// above 15"
+fn conditions(operations: &[Operation]) -> [(u8, bool); 2] {
+    let of_no_kind = |&[kind, r1, ..]: &Operation| match kind {
+        5 => !(1..=4).contains(&r1),
+        _ => !(1..=10).contains(&kind),
+    };
+    let beyond = |&operation: &Operation| in_use(operation).into_iter().any(|r| r > 15);
+    [
+        (KIND, operations.iter().any(of_no_kind)),
+        (REGISTER, operations.iter().any(beyond)),
+    ]
+}
+
+/// The register numbers in use, by the table. "Bytes that a kind does not use
+/// are not looked at."
+fn in_use([kind, r1, r2, r3]: Operation) -> Vec<u8> {
+    match (kind, r1) {
+        (1 | 2, _) => vec![r1, r2],
+        (5, 1 | 3) => vec![r2, r3],
+        (5, 2 | 4) => vec![r2],
+        (8 | 9, _) => vec![r3],
+        (3 | 4 | 6 | 7 | 10, _) => vec![r1, r2, r3],
+        _ => vec![],
+    }
+}
+
+/// The table's figures.
+fn cycles([kind, ..]: Operation) -> u32 {
+    match kind {
+        1..=5 => 1,
+        8 | 9 => 2,
+        _ => 3,
+    }
+}
+
+/// What the table says that an operation does. "Operands are read before the
+/// result is written."
+fn performed(bank: &Bank, [kind, r1, r2, r3]: Operation) -> Bank {
+    let read = |number: u8| bank.general[usize::from(number)];
+    let through_b = |word| butterfly(WIDTH, &stages_in(bank.b), word).result;
+    let through_ib = |word| inverse(WIDTH, &stages_in(bank.ib), word).result;
+    let mut after = *bank;
+    let mut write = |word| after.general[usize::from(r1)] = word;
+    match (kind, r1) {
+        (1, _) => write(through_b(read(r2))),
+        (2, _) => write(through_ib(read(r2))),
+        (3, _) => write(through_ib(read(r2) & read(r3))),
+        (4, _) => write(through_b(read(r2)) & read(r3)),
+        (5, 1) => (after.b[0], after.b[1]) = (read(r2), read(r3)),
+        (5, 2) => after.b[2] = read(r2),
+        (5, 3) => (after.ib[0], after.ib[1]) = (read(r2), read(r3)),
+        (5, _) => after.ib[2] = read(r2),
+        (6, _) => write(gather(WIDTH, read(r3), read(r2)).result),
+        (7, _) => write(scatter(WIDTH, read(r3), read(r2)).result),
+        (8, _) => after.ib = registers_of(decode(WIDTH, read(r3)).result.inverse),
+        (9, _) => after.b = registers_of(decode(WIDTH, read(r3)).result.butterfly),
+        _ => write(group(WIDTH, read(r3), read(r2)).result),
+    }
+    after
+}
+
+/// "b1 holds column 1 in its low half and column 2 in its high half; b2 and b3
+/// go on so, and ib likewise."
+fn stages_in(registers: [u64; 3]) -> Controls {
+    array::from_fn(|i| (registers[i / 2] >> (i % 2 * 32)) as u32)
+}
+
+/// The registers that hold these stages.
+fn registers_of(stages: Controls) -> [u64; 3] {
+    array::from_fn(|i| u64::from(stages[2 * i]) | u64::from(stages[2 * i + 1]) << 32)
+}

@@ -1,0 +1,158 @@
+//! The register unit.
+
+use crate::{ffi, Refusal};
+
+/// The registers of a unit, which the host owns; fresh by default, that is all
+/// zero.
+///
+/// An operation is four bytes: kind, r1, r2, r3. The registers that it uses are
+/// read before its result is written.
+///
+/// | Kind | Does | Cycles |
+/// |---|---|---|
+/// | 1, 2 | r1 = r2 through the butterfly at b, through the inverse at ib | 1 |
+/// | 3 | r1 = (r2 and r3) through the inverse at ib | 1 |
+/// | 4 | r1 = (r2 through the butterfly at b) and r3 | 1 |
+/// | 5, r1 = 1 or 3 | the first two registers of b, of ib = r2, r3 | 1 |
+/// | 5, r1 = 2 or 4 | the third register of b, of ib = r2 | 1 |
+/// | 6, 7 | r1 = r2 gathered, scattered by r3 | 3 |
+/// | 8, 9 | ib, b = the controls decoded from r3 | 2 |
+/// | 10 | r1 = r2 grouped by r3 | 3 |
+///
+/// A byte that has no meaning there is not looked at.
+#[repr(C)]
+#[derive(Clone, Copy, Debug, Default, PartialEq, Eq, Hash)]
+pub struct Bank {
+    /// The general registers, by their number.
+    pub general: [u64; 16],
+    /// The butterfly's controls: the first register holds its first stage in
+    /// the low half and its second stage in the high half, and so on.
+    pub b: [u64; 3],
+    /// The inverse's controls, held likewise.
+    pub ib: [u64; 3],
+}
+
+/// How a run ended.
+#[derive(Clone, Copy, Debug, PartialEq, Eq, Hash)]
+#[repr(u8)]
+pub enum End {
+    /// Every operation was run.
+    Done = 1,
+    /// An operation is left and does not fit in what is left of the budget.
+    Spent = 2,
+}
+
+/// What a run did.
+#[derive(Clone, Copy, Debug, PartialEq, Eq, Hash)]
+pub struct Run {
+    /// How it ended.
+    pub end: End,
+    /// How many operations were run.
+    pub ran: u32,
+    /// The cycles that these used.
+    pub cycles: u32,
+}
+
+impl Bank {
+    /// Performs one operation and answers its cycles. If it is refused, every
+    /// register stays as it was.
+    ///
+    /// # Errors
+    ///
+    /// [`Refusal::Kind`] and [`Refusal::Register`].
+    ///
+    /// ```
+    /// use tigbayon::{Bank, Refusal};
+    ///
+    /// let mut bank = Bank::default();
+    /// bank.general[2] = 0xB6;
+    /// bank.general[3] = 0xAD;
+    /// assert_eq!(bank.operate(6, 1, 2, 3), Ok(3));
+    /// assert_eq!(bank.general[1], 0x1A);
+    ///
+    /// assert_eq!(bank.operate(0, 1, 2, 3), Err(Refusal::Kind));
+    /// assert_eq!(bank.operate(6, 16, 2, 3), Err(Refusal::Register));
+    /// ```
+    pub fn operate(&mut self, kind: u8, r1: u8, r2: u8, r3: u8) -> Result<u32, Refusal> {
+        ffi::tb_operate(self, kind, r1, r2, r3).into()
+    }
+
+    /// Runs a list of operations, at most 4,096 bytes, as long as the next
+    /// one's cycles fit in what is left of the budget. If any of them would be
+    /// refused, the run is, and every register stays as it was.
+    ///
+    /// # Errors
+    ///
+    /// [`Refusal::Length`], [`Refusal::Kind`] and [`Refusal::Register`].
+    ///
+    /// ```
+    /// use tigbayon::{Bank, End, Refusal, Run};
+    ///
+    /// let mut fresh = Bank::default();
+    /// fresh.write(2, 0xB6)?;
+    /// fresh.write(3, 0xAD)?;
+    /// let list = [8, 0, 0, 3, 3, 1, 2, 3];
+    ///
+    /// let mut bank = fresh;
+    /// let (end, ran, cycles) = (End::Done, 2, 3);
+    /// assert_eq!(bank.run(&list, 3), Ok(Run { end, ran, cycles }));
+    /// assert_eq!(bank.read(1), Ok(0x1A));
+    ///
+    /// let mut bank = fresh;
+    /// let (end, ran, cycles) = (End::Spent, 1, 2);
+    /// assert_eq!(bank.run(&list, 2), Ok(Run { end, ran, cycles }));
+    /// assert_eq!(bank.read(1), Ok(0));
+    ///
+    /// assert_eq!(bank.run(&list[..5], 3), Err(Refusal::Length));
+    /// # Ok::<(), tigbayon::Refusal>(())
+    /// ```
+    pub fn run(&mut self, operations: &[u8], budget: u32) -> Result<Run, Refusal> {
+        ffi::tb_run(self, operations, budget).into()
+    }
+
+    /// Reads a general register.
+    ///
+    /// # Errors
+    ///
+    /// [`Refusal::Register`].
+    ///
+    /// ```
+    /// use tigbayon::{Bank, Refusal};
+    ///
+    /// assert_eq!(Bank::default().read(15), Ok(0));
+    /// assert_eq!(Bank::default().read(16), Err(Refusal::Register));
+    /// ```
+    pub fn read(&self, number: u8) -> Result<u64, Refusal> {
+        ffi::tb_read(self, number).into()
+    }
+
+    /// Writes a general register. If that is refused, every register stays as
+    /// it was.
+    ///
+    /// # Errors
+    ///
+    /// [`Refusal::Register`].
+    ///
+    /// ```
+    /// use tigbayon::{Bank, Refusal};
+    ///
+    /// let mut bank = Bank::default();
+    /// assert_eq!(bank.write(15, 7), Ok(()));
+    /// assert_eq!(bank.general[15], 7);
+    /// assert_eq!(bank.write(16, 7), Err(Refusal::Register));
+    /// ```
+    pub fn write(&mut self, number: u8, value: u64) -> Result<(), Refusal> {
+        Refusal::check(ffi::tb_write(self, number, value))
+    }
+}
+
+impl End {
+    /// Reads the library's number for a run that was not refused.
+    pub(crate) fn of(number: u8) -> End {
+        match number {
+            1 => End::Done,
+            2 => End::Spent,
+            _ => panic!("libtigbayon answered unknown end {number}"),
+        }
+    }
+}
