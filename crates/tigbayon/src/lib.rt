@@ -1,5 +1,6 @@
 // The exported C functions, declared in include/tigbayon.h: each hands its arguments to the call it is named for.
-// No logic is here, and each promise is that call's.
+// No logic is here, and each promise is that call's. The host lends its register bank: it is copied out, and what the call
+// leaves is stored back.
 ghost use mathlib.Core.Path.{_≡_};
 ghost use Rattle.network.specs.Stage.{butterflyOf, inverseOf};
 ghost use Rattle.network.specs.Calls.{carryAnswer, decodeAnswer};

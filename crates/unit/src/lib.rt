@@ -1,3 +1,4 @@
+// The register unit (paper 01, 'The register unit'): the bank of registers by value, one operation, a run with a budget of cycles.
 ghost use mathlib.Core.Path.{_≡_};
 ghost use Prim.Native.Nat.{_+_, _*_, _/_, _%_, _^_, _≤_, _<_};
 ghost use lib.ListN.{length, set};
@@ -8,8 +9,8 @@ ghost use Rattle.network.specs.Calls.{controlsFit};
 ghost use Rattle.network.specs.Decoder.{decodeOf, decodeInverseOf};
 ghost use Rattle.network.specs.Stage.{butterflyOf, inverseOf};
 ghost use Rattle.unit.specs.Bank.{register, withRegister, withB, withIb, stagesOf, packedOf};
-ghost use Rattle.unit.specs.Calls.{operated, operateOf, numberRefusal, readOf, written, writeOf};
-ghost use Rattle.unit.specs.Run.{ranAt, operationsOf, ranOf, lowerOf, operationsRefusal, runRefusal, endedOf, outcomeOf, runOf};
+ghost use Rattle.unit.specs.Calls.{operateOf, numberRefusal, readOf, writeOf};
+ghost use Rattle.unit.specs.Run.{operationsOf, ranOf, lowerOf, operationsRefusal, runRefusal, endedOf, outcomeOf, runOf};
 ghost use Rattle.unit.specs.Operation.{cyclesOf, isKind, usedOf, areRegisters, operationRefusal, loadOf, stepOf};
 
 // The registers of the unit: sixteen general ones, and the controls of both networks, two stages a register, the earlier one in the low half.
