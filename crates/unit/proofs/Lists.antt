@@ -7,7 +7,7 @@ use native.Mathlib.Omega.{arith}
 use lib.Dec.{eqb, leb, ltb}
 use lib.ListN.{length, getD, drop, drop-of-length-le}
 use lib.Seq.{drop-cons}
-use borrow.Author.Tests.{eqb-true, leb-true}
+use borrow.Author.Tests.{eqb-true, leb-true, eq-eqb, le-leb}
 use Rattle.bits.specs.Refusal.{lowest, IsLowest}
 use Rattle.bits.proofs.Refusals.{lowest-law}
 use Rattle.unit.specs.Operation.{isKind, usedOf, areRegisters, operationRefusal}
@@ -107,6 +107,19 @@ run-within bytes e =
     by-tests true true p q z = (eqb-true (length bytes % 4) 0 p, leb-true (length bytes) 4096 q)
     by-tests true false p q z = absurd (omega arith)
     by-tests false b p q z = absurd (omega arith)
+
+-- and every operation of its list is accepted
+pub run-accepts : (bytes : List ℕ) → runRefusal bytes ≡ 0 → (anyKind (operationsOf bytes) ≡ false) × (anyRegister (operationsOf bytes) ≡ false)
+unfolding operationsRefusal
+run-accepts bytes e =
+    let w = run-within bytes e in
+    let l = run-refusal-by bytes (eq-eqb (length bytes % 4) 0 (w .0)) (le-leb (length bytes) 4096 (w .1)) refl in
+    by-tests (anyKind (operationsOf bytes)) (anyRegister (operationsOf bytes)) (sym l ∙ e)
+  where
+    by-tests : (p q : Bool) → found p q ≡ 0 → (p ≡ false) × (q ≡ false)
+    by-tests true q z = absurd (omega arith)
+    by-tests false true z = absurd (omega arith)
+    by-tests false false z = (refl, refl)
 
 -- demand 1, of a run
 pub run-refusal-lowest : (bytes : List ℕ) → IsLowest (runConditions bytes) (runRefusal bytes)

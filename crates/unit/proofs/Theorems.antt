@@ -1,6 +1,6 @@
 -- The register unit's theorems, over its definitions. Assumes nothing.
 use mathlib.Core.Path.{_≡_, refl, sym, _∙_, ap}
-use mathlib.Core.Bool.{Bool, true, false, not, cond, _||_}
+use mathlib.Core.Bool.{Bool, true, false, not, cond, _||_, false≢true}
 use mathlib.Core.List.{List, [], _∷_, map, reverse}
 use Prim.Native.Nat.{ℕ, zero, suc, _+_, _-_, _^_, _<_, _≤_}
 use native.Mathlib.Omega.{arith}
@@ -9,7 +9,7 @@ use lib.Bits.{bitAnd}
 use lib.Dec.{eqb, ltb}
 use lib.ListN.{length, set, take}
 use lib.Seq.{take-length}
-use borrow.Author.Tests.{eq-eqb, le-ltb, eqb-true, eqb-false}
+use borrow.Author.Tests.{eq-eqb, le-ltb, not-false}
 use Rattle.gather.specs.Gather.{gatherOf, scatterOf}
 use Rattle.network.specs.Stage.{falling, butterflyOf, inverseOf}
 use Rattle.network.specs.Decoder.{column, decodeOf, decodeInverseOf}
@@ -18,10 +18,12 @@ use Rattle.unit.specs.declared.Bank.{Bank}
 use Rattle.unit.specs.declared.Ran.{Ran}
 use Rattle.unit.specs.declared.Operated.{Operated}
 use Rattle.unit.specs.Bank.{register, stagesOf, packedOf}
-use Rattle.unit.specs.Operation.{cyclesOf, operationRefusal, stepOf}
+use Rattle.unit.specs.Operation.{cyclesOf, isKind, usedOf, areRegisters, operationRefusal, stepOf}
 use Rattle.unit.specs.Calls.{operateOf}
-use Rattle.unit.specs.Run.{Operation, operationsOf, stepsOf, sumOf, ranOf, endedOf, outcomeOf, refusedOf, runRefusal, runOf}
+use Rattle.unit.specs.Run.{Operation, operationsOf, anyKind, anyRegister, stepsOf, sumOf, ranOf, endedOf, outcomeOf, refusedOf, runRefusal, runOf}
+use Rattle.unit.proofs.Asked.{operation-refusal-by}
 use Rattle.unit.proofs.Held.{stages-packed}
+use Rattle.unit.proofs.Lists.{run-accepts}
 use Rattle.unit.proofs.Runs.{ran-fits, ran-stops}
 
 -- A run within its budget
@@ -79,6 +81,37 @@ module _ (k : Bank) (bytes : List ℕ) (budget : ℕ) where
       by-test : (b : Bool) → cond b (outcomeOf k os (ranOf budget os)) (refusedOf k (runRefusal bytes)) .run .cycles ≤ budget
       by-test true = ran-within budget os
       by-test false = omega arith
+
+-- The calls on one operation, one after the other
+
+-- an operation that is accepted does its step
+accepted-step : (k : Bank) (kind r1 r2 r3 : ℕ) → operationRefusal kind r1 r2 r3 ≡ 0 → operateOf k kind r1 r2 r3 .bank ≡ stepOf k kind r1 r2 r3
+unfolding operateOf
+accepted-step k kind r1 r2 r3 e = rw (eq-eqb (operationRefusal kind r1 r2 r3) 0 e)
+
+unfoldable pub operatesOf : Bank → List Operation → Bank
+operatesOf k [] = k
+operatesOf k (o ∷ os) = operatesOf (operateOf k (o .0) (o .1) (o .2) (o .3) .bank) os
+
+neither : (a b : Bool) → (a || b) ≡ false → (a ≡ false) × (b ≡ false)
+neither true b e = absurd (false≢true (sym e))
+neither false b e = (refl, e)
+
+pub operates-steps : (k : Bank) (os : List Operation) → anyKind os ≡ false → anyRegister os ≡ false → operatesOf k os ≡ stepsOf k os
+unfolding operatesOf stepsOf anyKind anyRegister
+operates-steps k [] p q = refl
+operates-steps k (o ∷ os) p q =
+    let a = neither (not (isKind (o .0) (o .1))) (anyKind os) p in
+    let b = neither (not (areRegisters (usedOf (o .0) (o .1) (o .2) (o .3)))) (anyRegister os) q in
+    let z = operation-refusal-by (o .0) (o .1) (o .2) (o .3) (not-false _ (a .0)) (not-false _ (b .0)) in
+    ap (λ (j : Bank). operatesOf j os) (accepted-step k (o .0) (o .1) (o .2) (o .3) z) ∙ operates-steps (stepOf k (o .0) (o .1) (o .2) (o .3)) os (a .1) (b .1)
+
+-- A run with an ample budget leaves the bank that the calls on each operation in turn leave.
+pub run-in-turn : (k : Bank) (bytes : List ℕ) (budget : ℕ) → runRefusal bytes ≡ 0 → sumOf (operationsOf bytes) ≤ budget
+    → runOf k bytes budget .bank ≡ operatesOf k (operationsOf bytes)
+run-in-turn k bytes budget e h =
+    let a = run-accepts bytes e in
+    ap (λ (r : Ran). r .bank) (run-ample k bytes budget e h) ∙ sym (operates-steps k (operationsOf bytes) (a .0) (a .1))
 
 -- Static kinds after a decode are the variable ones
 
