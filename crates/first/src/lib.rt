@@ -1,6 +1,6 @@
 // The first controls of a butterfly followed by an inverse, for any permutation (paper 01, 'Finder').
 ghost use mathlib.Core.Path.{_≡_};
-ghost use mathlib.Core.Bool.{not};
+ghost use mathlib.Core.Bool.{not, cond};
 ghost use Prim.Native.Nat.{suc, _+_, _*_, _%_, _^_, _≤_, _<_};
 ghost use lib.Dec.{leb};
 ghost use lib.ListN.{length};
@@ -158,23 +158,26 @@ fn settle(to: &[u8; 64], from: &[u8; 64], marks: &mut [u8; 384], e: usize, b: us
     }
 }
 
-// internal: an exponent below 6. Where a half begins.
-fn side(e: usize, upper: bool) -> usize
-    requires { ⌜ e < 6 ⌝ }
-    ensures { λ r. ⌜ (r ≡ weight upper e) × (r ≤ 2 ^ e) ⌝ }
+// The first number or the second.
+fn pick(first: bool, x: u8, y: u8) -> u8
+    ensures { λ r. ⌜ r ≡ cond first x y ⌝ }
 {
-    if upper {
-        return power(e);
+    if first {
+        return x;
     }
-    0
+    y
 }
 
-// internal: a block, a switch of its outer stages, and the half of an entry there. The entry within its own half.
+// internal: a block, a switch of its outer stages, and the half of an entry there. The entry within its own half. Both are read, so that
+// no branch hangs on the mark.
 fn half_entry(entries: &[u8; 64], e: usize, b: usize, q: usize, upper: bool) -> u8
     requires { ⌜ (Fits e b) × (q < 2 ^ e) ⌝ }
     ensures { λ r. ⌜ r ≡ placeIn (now (entries .entry)) b (weight upper e + q) % 2 ^ e ⌝ }
 {
-    entries[2 * b + q + side(e, upper)] % (power(e) as u8)
+    let half = power(e);
+    let low = entries[2 * b + q];
+    let high = entries[2 * b + q + half];
+    pick(upper, high, low) % (half as u8)
 }
 
 // internal: a block, and the marks of one of its outer stages. The permutation between the outer stages: each half by itself.
