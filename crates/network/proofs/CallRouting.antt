@@ -24,7 +24,7 @@ use Rattle.network.proofs.Travel.{length-falling, length-rising}
 use Rattle.network.proofs.Filling.{map-at, reverse-at}
 use Rattle.network.proofs.Routing.{column-lt, length-decode, undo, undo-inverse, butterfly-lt, inverse-lt, mask-routing-scatter, mask-routing-gather}
 use Rattle.network.proofs.Six.{travel-own}
-use Rattle.network.proofs.Calls.{carry-refusal-by, carry-within, carry-done, decode-refusal-by}
+use Rattle.network.proofs.Calls.{carry-refusal-by, carry-within, carry-done, decode-refusal-by, each-fit}
 
 getD-zeros : (n i : ℕ) → _≡_ {A = ℕ} (getD (replicate n 0) i 0) 0
 getD-zeros zero i = refl
@@ -44,13 +44,6 @@ fit-each L j (c ∷ cs) e i h = by-test (fits (usedBits L j) c) (ltb-true c (2 ^
     by-test true f r e (suc i) h =
         let n : suc j + i ≡ j + suc i = omega arith in rw n at (r e i (omega arith))
     by-test false f r e i h = absurd (false≢true e)
-
-each-fit : (L j : ℕ) (cs : List ℕ) → ((i : ℕ) → i < length cs → getD cs i 0 < 2 ^ usedBits L (j + i)) → controlsFit L j cs ≡ true
-each-fit L j [] f = refl
-each-fit L j (c ∷ cs) f =
-    let h : c < 2 ^ usedBits L j = rw add-zero at (f 0 (omega arith)) in
-    ap (λ (b : Bool). b && controlsFit L (suc j) cs) (lt-ltb c (2 ^ usedBits L j) h)
-    ∙ each-fit L (suc j) cs (λ i l. let n : j + suc i ≡ suc j + i = omega arith in rw n at (f (suc i) (omega arith)))
 
 -- L stages of w/2 control bits each, padded to six, fit
 six-fit : (L : ℕ) (cs : List ℕ) → L ≤ 6 → length cs ≡ L → ((i : ℕ) → i < L → getD cs i 0 < 2 ^ (2 ^ L / 2)) → controlsFit L 0 (six cs) ≡ true

@@ -4,7 +4,7 @@ use mathlib.Core.Bool.{Bool, true, false, not, cond, _&&_}
 use mathlib.Core.List.{List, [], _∷_, reverse}
 use Prim.Native.Nat.{ℕ, zero, suc, _+_, _-_, _*_, _/_, _%_, _^_, _<_, _≤_}
 use native.Mathlib.Omega.{arith}
-use native.Mathlib.Nat.{pow-succ', mod-eq-of-lt, one-mul}
+use native.Mathlib.Nat.{pow-succ', mod-eq-of-lt, one-mul, zero-add, add-zero}
 use native.Mathlib.Numerals.{add-one}
 use lib.Dec.{eqb, ltb}
 use lib.ListN.{length, getD, take, drop, replicate, drop-of-length-le}
@@ -47,6 +47,14 @@ module _ (L at : ℕ) where
 
   pub fit-end : (cs : List ℕ) → length cs ≤ at → controlsFit L at (drop at cs) ≡ true
   fit-end cs h = rw (drop-of-length-le cs h)
+
+-- by the width of each stage
+pub each-fit : (L j : ℕ) (cs : List ℕ) → ((i : ℕ) → i < length cs → getD cs i 0 < 2 ^ usedBits L (j + i)) → controlsFit L j cs ≡ true
+each-fit L j [] f = refl
+each-fit L j (c ∷ cs) f =
+    let h : c < 2 ^ usedBits L j = rw add-zero at (f 0 (omega arith)) in
+    ap (λ (b : Bool). b && controlsFit L (suc j) cs) (lt-ltb c (2 ^ usedBits L j) h)
+    ∙ each-fit L (suc j) cs (λ i l. let n : j + suc i ≡ suc j + i = omega arith in rw n at (f (suc i) (omega arith)))
 
 -- a call on a network
 
@@ -92,6 +100,15 @@ module _ (f : ℕ → List ℕ → ℕ → ℕ) (w : ℕ) (k : Controls) (x : �
       → _≡_ {A = Carried} (record { refusal = 0; word = y }) (carryAnswer f w k x)
   unfolding carryAnswer
   carry-done z q y = rw (← e, eq-eqb n 0 z, y, q)
+
+-- At width 64 every control bit is used, and every call is carried out.
+
+pub carry-whole : (f : ℕ → List ℕ → ℕ → ℕ) (k : Controls) (x : ℕ) → length (k .stages) ≡ 6 → ((i : ℕ) → getD (k .stages) i 0 < 2 ^ 32) → x < 2 ^ 64
+    → {w y : ℕ} → w ≡ 64 → y ≡ f 6 (k .stages) x → _≡_ {A = Carried} (record { refusal = 0; word = y }) (carryAnswer f w k x)
+carry-whole f k x n u h {w} e y =
+    let used = each-fit 6 0 (k .stages) (λ i l. rw (zero-add i, lt-ltb i 6 (omega arith)) (u i)) in
+    let r = carry-refusal-by 64 (k .stages) x refl (lt-ltb x (2 ^ 64) h) used in
+    carry-done f 64 k x {n = 0} (sym r) refl {l = 6} refl y ∙ ap (λ (v : ℕ). carryAnswer f v k x) (sym e)
 
 -- a call of the decoder
 

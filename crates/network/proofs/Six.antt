@@ -1,7 +1,7 @@
 -- Six stages at width 64 stand for the stages in use at any width: the others pass every bit. Assumes nothing.
 use mathlib.Core.Path.{_≡_, refl, sym, _∙_, ap, ap₂}
 use mathlib.Core.Bool.{Bool, true, false, cond}
-use mathlib.Core.List.{List, [], _∷_, _++_, reverse, reverse-cons, reverse-append, reverse-reverse}
+use mathlib.Core.List.{List, [], _∷_, _++_, append-nil, reverse, reverse-cons, reverse-append, reverse-reverse}
 use Prim.Native.Nat.{ℕ, zero, suc, _+_, _-_, _*_, _/_, _%_, _^_, _<_, _≤_}
 use native.Mathlib.Omega.{arith}
 use native.Mathlib.Nat.{zero-add, suc-add, add-suc, add-zero}
@@ -12,7 +12,8 @@ use lib.Seq.{length-take-le, take-append-le, take-all, ext-getD}
 use borrow.Author.Tests.{eq-eqb}
 use Rattle.bits.specs.Bit.{bit}
 use Rattle.bits.proofs.Word.{bit-ones, ext}
-use Rattle.network.specs.Stage.{switchOf, source, stage, travel, falling, rising}
+use Rattle.network.specs.Stage.{switchOf, source, stage, travel, falling, rising, butterflyOf, inverseOf}
+use Rattle.network.specs.Calls.{six}
 use Rattle.network.specs.Word.{swapsOf, swapsAt, exchangeOf, exchangesOf, allPass, byIndex, distances, travelOf}
 use Rattle.network.proofs.Index.{place, on-places, block-lt, source-at}
 use Rattle.network.proofs.Travel.{Fits, AllFit, bit-stage, stage-lt, stage-wider, travel-lt, falling-fit, rising-fit, length-falling, length-rising, reverse-falling}
@@ -192,3 +193,20 @@ module _ (L : ℕ) (hL : L ≤ 6) (cs : List ℕ) (hc : length cs ≡ 6) {x : �
       (swaps-reverse (falling 6) (ones ++ reverse (take L cs)) n ∙ ap₂ swapsAt (reverse-falling 6) back)
       ∙ exchanges-travel (rising 6) (take L cs ++ ones) (rising-fit 6 {L = 6} (omega arith)) (wide L hL cs hc hx)
       ∙ rise-used L hL cs hc hx
+
+-- all six in use
+
+pub fall-whole : (cs : List ℕ) {ws : List ℕ} {x y : ℕ} → x < 2 ^ 64 → ws ≡ swapsAt (falling 6) cs → y ≡ exchangesOf (falling 6) ws x → y ≡ butterflyOf 6 cs x
+unfolding butterflyOf
+fall-whole cs {ws} {x} h w e =
+    e ∙ ap (λ (ss : List ℕ). exchangesOf (falling 6) ss x) w ∙ exchanges-travel (falling 6) cs (falling-fit 6 {L = 6} (omega arith)) h
+
+pub rise-whole : (cs : List ℕ) → length cs ≡ 6 → {bs ws : List ℕ} {x y : ℕ} → x < 2 ^ 64 → bs ≡ six (reverse (take 6 cs)) → ws ≡ swapsAt (falling 6) bs
+    → y ≡ exchangesOf (rising 6) (reverse ws) x → y ≡ inverseOf 6 cs x
+unfolding inverseOf travelOf
+rise-whole cs n {bs} {ws} {x} h b w e =
+    let l : length (reverse (take 6 cs)) ≡ 6 = length-reverse (take 6 cs) ∙ length-take-le 6 cs (omega arith) in
+    let s : six (reverse (take 6 cs)) ≡ reverse (take 6 cs) =
+    ap (λ (k : ℕ). reverse (take 6 cs) ++ replicate (6 - k) 0) l ∙ append-nil (reverse (take 6 cs))
+    in
+    e ∙ ap (λ (ss : List ℕ). exchangesOf (rising 6) (reverse ss) x) (w ∙ ap (swapsAt (falling 6)) (b ∙ s)) ∙ carry-rise 6 (omega arith) cs n h

@@ -217,6 +217,13 @@ fn through(rising: bool, width: u32, controls: Controls, word: u64) -> Carried
 pub fn butterfly(width: u32, controls: Controls, word: u64) -> Carried
     ensures { λ r. ⌜ r ≡ carryAnswer butterflyOf width controls word ⌝ }
 {
+    if width == 64 {
+        let stages = controls.stages;
+        return Carried {
+            refusal: 0,
+            word: fall(prepare(stages), word),
+        };
+    }
     through(false, width, controls, word)
 }
 
@@ -224,6 +231,13 @@ pub fn butterfly(width: u32, controls: Controls, word: u64) -> Carried
 pub fn inverse(width: u32, controls: Controls, word: u64) -> Carried
     ensures { λ r. ⌜ r ≡ carryAnswer inverseOf width controls word ⌝ }
 {
+    if width == 64 {
+        let stages = controls.stages;
+        return Carried {
+            refusal: 0,
+            word: rise(prepare(reversed(6, stages)), word),
+        };
+    }
     through(true, width, controls, word)
 }
 
