@@ -6,7 +6,7 @@ use Prim.Native.Nat.{ℕ, zero, suc, _+_, _-_, _/_, _^_, _<_, _≤_}
 use native.Mathlib.Omega.{arith}
 use native.Mathlib.Decide.{decLt}
 use native.Mathlib.Nat.{add-zero, zero-add}
-use lib.Bits.{bitAnd, and-le-l, and-le-r}
+use lib.Bits.{bitAnd, and-le-l}
 use lib.ListN.{length, getD, take, drop, replicate, length-reverse, take-append-drop, List·getD-append}
 use lib.Seq.{getD-append-add, length-take-le, getD-take}
 use borrow.Author.Tests.{lt-ltb, le-ltb, ltb-true}
@@ -19,7 +19,7 @@ use Rattle.network.specs.Stage.{falling, rising, butterflyOf, inverseOf}
 use Rattle.network.specs.Decoder.{column, decodeOf, decodeInverseOf}
 use Rattle.network.specs.declared.Controls.{Controls}
 use Rattle.network.specs.declared.Decoded.{Decoded}
-use Rattle.network.specs.Calls.{usedBits, controlsFit, carryRefusal, carryAnswer, six, controls, decodeRefusal, decodeAnswer}
+use Rattle.network.specs.Calls.{usedBits, controlsFit, carryRefusal, carryAnswer, six, controls, decodeAnswer}
 use Rattle.network.proofs.Travel.{length-falling, length-rising}
 use Rattle.network.proofs.Filling.{map-at, reverse-at}
 use Rattle.network.proofs.Routing.{column-lt, length-decode, undo, undo-inverse, butterfly-lt, inverse-lt, mask-routing-scatter, mask-routing-gather}

@@ -1,20 +1,19 @@
 -- Six stages at width 64 stand for the stages in use at any width: the others pass every bit. Assumes nothing.
 use mathlib.Core.Path.{_≡_, refl, sym, _∙_, ap, ap₂}
-use mathlib.Core.Bool.{Bool, true, false, cond}
+use mathlib.Core.Bool.{true, false}
 use mathlib.Core.List.{List, [], _∷_, _++_, append-nil, reverse, reverse-cons, reverse-append, reverse-reverse}
-use Prim.Native.Nat.{ℕ, zero, suc, _+_, _-_, _*_, _/_, _%_, _^_, _<_, _≤_}
+use Prim.Native.Nat.{ℕ, zero, suc, _+_, _-_, _*_, _%_, _^_, _<_, _≤_}
 use native.Mathlib.Omega.{arith}
 use native.Mathlib.Nat.{zero-add, suc-add, add-suc, add-zero}
-use lib.ListN.{length, getD, take, drop, replicate, take-append-drop, length-replicate, length-reverse, length-append, getD-replicate}
+use lib.ListN.{length, take, drop, replicate, take-append-drop, length-replicate, length-reverse, length-append, getD-replicate}
 use lib.Arith.{digits-lt}
 use lib.Pow.{pow-mono}
 use lib.Seq.{length-take-le, take-append-le, take-all, ext-getD}
-use borrow.Author.Tests.{eq-eqb}
 use Rattle.bits.specs.Bit.{bit}
 use Rattle.bits.proofs.Word.{bit-ones, ext}
-use Rattle.network.specs.Stage.{switchOf, source, stage, travel, falling, rising, butterflyOf, inverseOf}
+use Rattle.network.specs.Stage.{source, stage, travel, falling, rising, butterflyOf, inverseOf}
 use Rattle.network.specs.Calls.{six}
-use Rattle.network.specs.Word.{swapsOf, swapsAt, exchangeOf, exchangesOf, allPass, byIndex, distances, travelOf}
+use Rattle.network.specs.Word.{swapsOf, swapsAt, exchangesOf, allPass, byIndex, distances, travelOf}
 use Rattle.network.proofs.Index.{place, on-places, block-lt, source-at}
 use Rattle.network.proofs.Travel.{Fits, AllFit, bit-stage, stage-lt, stage-wider, travel-lt, falling-fit, rising-fit, length-falling, length-rising, reverse-falling}
 use Rattle.network.proofs.Words.{exchange-stage}
@@ -196,6 +195,9 @@ module _ (L : ℕ) (hL : L ≤ 6) (cs : List ℕ) (hc : length cs ≡ 6) {x : �
 
 -- all six in use
 
+pub six-whole : (cs : List ℕ) → length cs ≡ 6 → six cs ≡ cs
+six-whole cs e = rw e (append-nil cs)
+
 pub fall-whole : (cs : List ℕ) {ws : List ℕ} {x y : ℕ} → x < 2 ^ 64 → ws ≡ swapsAt (falling 6) cs → y ≡ exchangesOf (falling 6) ws x → y ≡ butterflyOf 6 cs x
 unfolding butterflyOf
 fall-whole cs {ws} {x} h w e =
@@ -206,7 +208,4 @@ pub rise-whole : (cs : List ℕ) → length cs ≡ 6 → {bs ws : List ℕ} {x y
 unfolding inverseOf travelOf
 rise-whole cs n {bs} {ws} {x} h b w e =
     let l : length (reverse (take 6 cs)) ≡ 6 = length-reverse (take 6 cs) ∙ length-take-le 6 cs (omega arith) in
-    let s : six (reverse (take 6 cs)) ≡ reverse (take 6 cs) =
-    ap (λ (k : ℕ). reverse (take 6 cs) ++ replicate (6 - k) 0) l ∙ append-nil (reverse (take 6 cs))
-    in
-    e ∙ ap (λ (ss : List ℕ). exchangesOf (rising 6) (reverse ss) x) (w ∙ ap (swapsAt (falling 6)) (b ∙ s)) ∙ carry-rise 6 (omega arith) cs n h
+    e ∙ ap (λ (ss : List ℕ). exchangesOf (rising 6) (reverse ss) x) (w ∙ ap (swapsAt (falling 6)) (b ∙ six-whole (reverse (take 6 cs)) l)) ∙ carry-rise 6 (omega arith) cs n h

@@ -213,6 +213,20 @@ fn through(rising: bool, width: u32, controls: Controls, word: u64) -> Carried
     }
 }
 
+// internal: the word through the butterfly at width 64, where every control bit is used and every word fits
+pub fn butterfly_64(stages: [u32; 6], word: u64) -> u64
+    ensures { λ r. ⌜ r ≡ butterflyOf 6 stages word ⌝ }
+{
+    fall(prepare(stages), word)
+}
+
+// internal: the word through the inverse at width 64
+pub fn inverse_64(stages: [u32; 6], word: u64) -> u64
+    ensures { λ r. ⌜ r ≡ inverseOf 6 stages word ⌝ }
+{
+    rise(prepare(reversed(6, stages)), word)
+}
+
 // The word through the butterfly: distances w/2, .., 2, 1.
 pub fn butterfly(width: u32, controls: Controls, word: u64) -> Carried
     ensures { λ r. ⌜ r ≡ carryAnswer butterflyOf width controls word ⌝ }
@@ -221,7 +235,7 @@ pub fn butterfly(width: u32, controls: Controls, word: u64) -> Carried
         let stages = controls.stages;
         return Carried {
             refusal: 0,
-            word: fall(prepare(stages), word),
+            word: butterfly_64(stages, word),
         };
     }
     through(false, width, controls, word)
@@ -235,7 +249,7 @@ pub fn inverse(width: u32, controls: Controls, word: u64) -> Carried
         let stages = controls.stages;
         return Carried {
             refusal: 0,
-            word: rise(prepare(reversed(6, stages)), word),
+            word: inverse_64(stages, word),
         };
     }
     through(true, width, controls, word)

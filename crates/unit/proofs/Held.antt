@@ -1,13 +1,10 @@
 -- Controls in registers, two stages a register. Assumes nothing.
-use mathlib.Core.Path.{_≡_, refl, sym, _∙_, ap}
-use mathlib.Core.Bool.{true}
+use mathlib.Core.Path.{_≡_, sym, _∙_, ap}
 use mathlib.Core.List.{List, [], _∷_}
 use Prim.Native.Nat.{ℕ, zero, suc, _+_, _*_, _/_, _%_, _^_, _<_, _≤_}
 use native.Mathlib.Omega.{arith}
 use lib.ListN.{length, getD, drop, drop-of-length-le}
 use lib.Seq.{drop-cons}
-use borrow.Author.Tests.{lt-ltb}
-use Rattle.network.specs.Calls.{controlsFit}
 use Rattle.unit.specs.Bank.{stagesOf, packedOf}
 
 -- n elements of a list from element i
@@ -20,19 +17,13 @@ all-elements xs i zero e = let h : length xs ≤ i = omega arith in drop-of-leng
 all-elements xs i (suc n) e =
     drop-cons xs i 0 (omega arith) ∙ ap (λ (ys : List ℕ). getD xs i 0 ∷ ys) (all-elements xs (suc i) n (omega arith))
 
--- the code's six stages are those of its three registers; at width 64 every bit of them is in use
+-- the code's six stages are those of its three registers
 pub stages-are : (rs : List ℕ) → length rs ≡ 3 → {a b c d e f : ℕ} → a ≡ getD rs 0 0 % 2 ^ 32 → b ≡ getD rs 0 0 / 2 ^ 32
     → c ≡ getD rs 1 0 % 2 ^ 32 → d ≡ getD rs 1 0 / 2 ^ 32 → e ≡ getD rs 2 0 % 2 ^ 32 → f ≡ getD rs 2 0 / 2 ^ 32
-    → b < 2 ^ 32 → d < 2 ^ 32 → f < 2 ^ 32
-    → (_≡_ {A = List ℕ} (a ∷ b ∷ c ∷ d ∷ e ∷ f ∷ []) (stagesOf rs)) × (controlsFit 6 0 (a ∷ b ∷ c ∷ d ∷ e ∷ f ∷ []) ≡ true)
-stages-are rs h {a} {b} {c} {d} {e} {f} p q r s t u l m n =
+    → _≡_ {A = List ℕ} (a ∷ b ∷ c ∷ d ∷ e ∷ f ∷ []) (stagesOf rs)
+stages-are rs h p q r s t u =
     let x : stagesOf rs ≡ stagesOf (elements rs 0 3) = ap stagesOf (all-elements rs 0 3 (sym h)) in
-    let la : a < 2 ^ 32 = omega arith in
-    let lc : c < 2 ^ 32 = omega arith in
-    let le : e < 2 ^ 32 = omega arith in (
-      rw (p, q, r, s, t, u) (sym x),
-      simp (lt-ltb a (2 ^ 32) la, lt-ltb b (2 ^ 32) l, lt-ltb c (2 ^ 32) lc, lt-ltb d (2 ^ 32) m, lt-ltb e (2 ^ 32) le, lt-ltb f (2 ^ 32) n),
-    )
+    rw (p, q, r, s, t, u) (sym x)
 
 -- and its three registers those of six stages
 pub packed-are : (cs : List ℕ) → length cs ≡ 6 → {a b c : ℕ} → a ≡ getD cs 1 0 * 2 ^ 32 + getD cs 0 0

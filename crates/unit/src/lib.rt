@@ -5,7 +5,6 @@ ghost use lib.ListN.{length, set};
 ghost use mathlib.Core.Bool.{true};
 ghost use mathlib.Core.List.{[], _∷_};
 ghost use Rattle.gather.specs.Gather.{gatherOf, scatterOf, groupOf};
-ghost use Rattle.network.specs.Calls.{controlsFit};
 ghost use Rattle.network.specs.Decoder.{decodeOf, decodeInverseOf};
 ghost use Rattle.network.specs.Stage.{butterflyOf, inverseOf};
 ghost use Rattle.unit.specs.Bank.{register, withRegister, withB, withIb, stagesOf, packedOf};
@@ -116,19 +115,18 @@ fn joined(low: u32, high: u32) -> u64
     high as u64 * 0x100000000 + low as u64
 }
 
-// The controls that a triple of registers holds.
-fn controls_of(registers: [u64; 3]) -> network::Controls
-    ensures { λ r. ⌜ (r .stages ≡ stagesOf registers) × (controlsFit 6 0 (r .stages) ≡ true) ⌝ }
+// The stages that a triple of registers holds.
+fn stages_of(registers: [u64; 3]) -> [u32; 6]
+    ensures { λ r. ⌜ r ≡ stagesOf registers ⌝ }
 {
-    let stages = [
+    [
         low(registers[0]),
         high(registers[0]),
         low(registers[1]),
         high(registers[1]),
         low(registers[2]),
         high(registers[2]),
-    ];
-    network::Controls { stages }
+    ]
 }
 
 // The triple of registers that holds the controls.
@@ -147,14 +145,14 @@ fn packed(controls: network::Controls) -> [u64; 3]
 fn butterfly_at(registers: [u64; 3], word: u64) -> u64
     ensures { λ r. ⌜ r ≡ butterflyOf 6 (stagesOf registers) word ⌝ }
 {
-    network::butterfly(64, controls_of(registers), word).word
+    network::butterfly_64(stages_of(registers), word)
 }
 
 // The word through the inverse at a triple of registers.
 fn inverse_at(registers: [u64; 3], word: u64) -> u64
     ensures { λ r. ⌜ r ≡ inverseOf 6 (stagesOf registers) word ⌝ }
 {
-    network::inverse(64, controls_of(registers), word).word
+    network::inverse_64(stages_of(registers), word)
 }
 
 // The butterfly's controls for a mask, in a triple of registers.

@@ -6,27 +6,19 @@ use mir.Syntax.{w32}
 use Rattle.network.specs.Stage.{butterflyOf}
 use Rattle.network.specs.Word.{travelOf}
 use Rattle.network.proofs.Calls.{carry-whole}
-use Rattle.network.proofs.Six.{fall-whole}
 use borrow.Author.Needs.{needs}
 use Rattle.network.proofs.butterfly.Statement.{statement}
 use Rattle.network.proofs.butterfly.Tie as tie
-use Rattle.network.proofs.butterfly.Reads as reads
-use Rattle.network.proofs.butterfly.Lts as lts
-use Rattle.network.proofs.through.Reads as through-reads
 
-prepare-requires : tie.Need-prepare-requires
-prepare-requires c κs = search needs
-
-fall-requires : tie.Need-fall-requires
-fall-requires c κs = search needs
+butterfly-64-requires : tie.Need-butterfly-64-requires
+butterfly-64-requires c κs = search needs
 
 returns : tie.Need-returns
 returns c =
-    let b = c .before .before in
+    let b = c .before in
     let a = b .before .before .args in
     let fit : (i : ℕ) → Fits w32 (getD (a .controls .stages) i 0) = λ i. search needs in
-    let word = fall-whole (a .controls .stages) (search needs) (c .before .prepare .ensures) (c .fall .ensures) in
-    carry-whole butterflyOf (a .controls) (a .word) (search needs) (λ i. fit i .fits) (search needs) (b .before .if1 .taken) word
+    carry-whole butterflyOf (a .controls) (a .word) (search needs) (λ i. fit i .fits) (search needs) (b .before .if1 .taken) (c .butterfly-64 .ensures)
 
 through-requires : tie.Need-through-requires
 through-requires c κs = search needs
@@ -36,4 +28,4 @@ unfolding butterflyOf travelOf
 returns-2 c = c .through .ensures
 
 pub butterfly-spec : {M : Type 1} → statement M
-butterfly-spec = tie.close (tie.spec prepare-requires fall-requires returns through-requires returns-2)
+butterfly-spec = tie.close (tie.spec butterfly-64-requires returns through-requires returns-2)

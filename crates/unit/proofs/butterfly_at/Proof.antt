@@ -1,23 +1,21 @@
 -- `unit::butterfly_at` meets its contract. Assumes nothing.
+use mathlib.Core.Path.{_∙_, ap}
+use mathlib.Core.List.{List}
+use Prim.Native.Nat.{ℕ}
 use Rattle.network.specs.Stage.{butterflyOf}
-use Rattle.unit.proofs.Width.{carried-64}
 use borrow.Author.Needs.{needs}
 use Rattle.unit.proofs.butterfly_at.Statement.{statement}
 use Rattle.unit.proofs.butterfly_at.Tie as tie
-use Rattle.unit.proofs.butterfly_at.Reads as reads
-use Rattle.unit.proofs.butterfly_at.Lts as lts
-use Rattle.network.proofs.butterfly.Reads as butterfly-reads
-use Rattle.unit.proofs.controls_of.Reads as controls-of-reads
 
-controls-of-requires : tie.Need-controls-of-requires
-controls-of-requires c κs = search needs
+stages-of-requires : tie.Need-stages-of-requires
+stages-of-requires c κs = search needs
 
-butterfly-requires : tie.Need-butterfly-requires
-butterfly-requires c κs = search needs
+butterfly-64-requires : tie.Need-butterfly-64-requires
+butterfly-64-requires c κs = search needs
 
 returns : tie.Need-returns
 returns c =
-    let k = c .before .controls-of in carried-64 butterflyOf (k .result) (c .before .before .args .word) (k .ensures .0) (k .ensures .1) (search needs) (c .butterfly .ensures)
+    c .butterfly-64 .ensures ∙ ap (λ (cs : List ℕ). butterflyOf 6 cs (c .before .before .args .word)) (c .before .stages-of .ensures)
 
 pub butterfly-at-spec : {M : Type 1} → statement M
-butterfly-at-spec = tie.close (tie.spec controls-of-requires butterfly-requires returns)
+butterfly-at-spec = tie.close (tie.spec stages-of-requires butterfly-64-requires returns)

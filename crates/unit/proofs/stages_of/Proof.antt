@@ -1,10 +1,10 @@
--- `unit::controls_of` meets its contract. Assumes nothing.
+-- `unit::stages_of` meets its contract. Assumes nothing.
 use Rattle.unit.proofs.Held.{stages-are}
 use borrow.Author.Needs.{needs}
-use Rattle.unit.proofs.controls_of.Statement.{statement}
-use Rattle.unit.proofs.controls_of.Tie as tie
-use Rattle.unit.proofs.controls_of.Reads as reads
-use Rattle.unit.proofs.controls_of.Lts as lts
+use Rattle.unit.proofs.stages_of.Statement.{statement}
+use Rattle.unit.proofs.stages_of.Tie as tie
+use Rattle.unit.proofs.stages_of.Reads as reads
+use Rattle.unit.proofs.stages_of.Lts as lts
 use Rattle.unit.proofs.high.Reads as high-reads
 use Rattle.unit.proofs.low.Reads as low-reads
 
@@ -49,10 +49,9 @@ returns c =
     let b = c .before .before .before in
     let a = b .before .before in
     stages-are (a .before .args .t1) (search needs) (a .low .ensures) (b .before .high .ensures) (b .low2 .ensures) (c .before .before .high2 .ensures) (c .before .low3 .ensures) (c .high3 .ensures)
-    (search needs) (search needs) (search needs)
 
-pub controls-of-spec : {M : Type 1} → statement M
-controls-of-spec =
+pub stages-of-spec : {M : Type 1} → statement M
+stages-of-spec =
     tie.close
     (tie.spec
     array-read-low
