@@ -1,21 +1,20 @@
 -- The decoder's code: turned zeros in closed form, and the control bits of a stage block by block. Assumes nothing.
-use mathlib.Core.Path.{_≡_, refl, sym, _∙_, ap}
+use mathlib.Core.Path.{_≡_, sym, _∙_, ap}
 use Prim.Native.Nat.{ℕ, zero, suc, _+_, _-_, _*_, _/_, _%_, _^_, _<_, _≤_}
 use native.Mathlib.Omega.{arith}
 use native.Mathlib.Decide.{decLt}
 use native.Mathlib.Nat.{mod-lt, mod-eq-of-lt, div-add-mod', add-mul-div-right, mul-le-mul-left, mul-le-mul-right, pow-succ', one-mul}
-use native.Mathlib.Numerals.{add-one}
 use lib.Arith.{digits-div, digits-mod}
 use lib.ListN.{getD}
+use lib.Bits.{bitAnd, and-le-r}
 use lib.Pow.{pow-pos, pow-mono, pow-add, pow-lt, shl-exact, ones-lt}
 use Rattle.bits.specs.Bit.{bit, ofBits, rank}
-use Rattle.bits.proofs.Word.{bit-mod-two, bit-ofBits, bit-not, bit-ones, bit-ones-above, ofBits-add, ofBits-lt, ext}
+use Rattle.bits.proofs.Word.{bit-lt, bit-shr, bit-shl-below, bit-shl-from, bit-and, bit-mod-two, bit-ofBits, bit-ones, bit-ones-above, ofBits-add, ofBits-lt, ext}
 use Rattle.bits.proofs.Rank.{rank-rest}
 use Rattle.network.specs.Stage.{falling}
 use Rattle.network.specs.Decoder.{turn, turned, controlAt, column, decodeOf}
 use Rattle.network.proofs.Turn.{turned-bit}
 use Rattle.network.proofs.Travel.{length-falling}
-use Rattle.network.proofs.Table.{distanceTable, distance-at}
 use Rattle.network.proofs.Steps.{falling-at}
 use Rattle.network.proofs.Filling.{map-at}
 
@@ -42,47 +41,36 @@ module _ {d : ℕ} (pos : 0 < d) (c : ℕ) where
   quotient n k lo hi =
       let e : n ≡ k * d + (n - k * d) = omega arith in ap (λ (i : ℕ). i / d) e ∙ digits-div k (omega arith)
 
-  -- up to d steps: ones from the right
-  pub turned-few : c % (2 * d) ≤ d → 2 ^ (c % (2 * d)) - 1 ≡ turned d c
-  turned-few h =
-      ext d (omega (arith, ones-lt (c % (2 * d)), pow-mono h)) (turned-lt pos c)
-      (λ t l. same t l (decLt t (c % (2 * d))) ∙ sym (steps-bit t l))
+  -- a window of d places on as many ones, moved to the left by these steps
+  pub turned-window : d ≤ 32 → bitAnd ((2 ^ d - 1) * 2 ^ (c % (2 * d)) % 2 ^ 64 / 2 ^ d) (2 ^ d - 1) ≡ turned d c
+  turned-window small =
+      ext d (omega (arith, and-le-r ((2 ^ d - 1) * 2 ^ (c % (2 * d)) % 2 ^ 64 / 2 ^ d) (2 ^ d - 1), ones-lt d)) (turned-lt pos c)
+      (λ t l. in-window t l ∙ same t l (decLt (d + t) (c % (2 * d))) (decLt t (c % (2 * d))) ∙ sym (steps-bit t l))
     where
-      same : (t : ℕ) → t < d → Dec (t < c % (2 * d)) → bit (2 ^ (c % (2 * d)) - 1) t ≡ (c % (2 * d) + (d - 1 - t)) / d % 2
-      same t l (yes k) = bit-ones (c % (2 * d)) t k ∙ omega (arith, quotient (c % (2 * d) + (d - 1 - t)) 1 (omega arith) (omega arith))
-      same t l (no n) =
-          bit-ones-above (c % (2 * d)) t (omega arith)
+      steps : c % (2 * d) < 2 * d
+      steps = mod-lt c (omega arith)
+
+      in-window : (t : ℕ) → t < d
+          → bit (bitAnd ((2 ^ d - 1) * 2 ^ (c % (2 * d)) % 2 ^ 64 / 2 ^ d) (2 ^ d - 1)) t ≡ bit ((2 ^ d - 1) * 2 ^ (c % (2 * d)) % 2 ^ 64) (d + t)
+      in-window t l =
+          let whole = (2 ^ d - 1) * 2 ^ (c % (2 * d)) % 2 ^ 64 in
+          bit-and (whole / 2 ^ d) (2 ^ d - 1) t
+          ∙ omega (arith, bit-ones d t l, bit-lt (whole / 2 ^ d) t)
+          ∙ bit-shr whole d t
+
+      same : (t : ℕ) → t < d → Dec (d + t < c % (2 * d)) → Dec (t < c % (2 * d))
+          → bit ((2 ^ d - 1) * 2 ^ (c % (2 * d)) % 2 ^ 64) (d + t) ≡ (c % (2 * d) + (d - 1 - t)) / d % 2
+      same t l (yes k) m =
+          bit-shl-below (2 ^ d - 1) (c % (2 * d)) {w = 64} (d + t) (omega arith) k
+          ∙ omega (arith, quotient (c % (2 * d) + (d - 1 - t)) 2 (omega arith) (omega (arith, steps)))
+      same t l (no n) (yes m) =
+          bit-shl-from (2 ^ d - 1) (c % (2 * d)) {w = 64} (d + t) (d + t - c % (2 * d)) (omega arith) (omega arith)
+          ∙ bit-ones d (d + t - c % (2 * d)) (omega arith)
+          ∙ omega (arith, quotient (c % (2 * d) + (d - 1 - t)) 1 (omega arith) (omega arith))
+      same t l (no n) (no m) =
+          bit-shl-from (2 ^ d - 1) (c % (2 * d)) {w = 64} (d + t) (d + t - c % (2 * d)) (omega arith) (omega arith)
+          ∙ bit-ones-above d (d + t - c % (2 * d)) (omega arith)
           ∙ omega (arith, quotient (c % (2 * d) + (d - 1 - t)) 0 (omega arith) (omega arith))
-
-  -- past d steps: zeros from the right again
-  pub turned-many : d < c % (2 * d) → 2 ^ d - 2 ^ (c % (2 * d) - d) ≡ turned d c
-  turned-many h =
-      let s = c % (2 * d) - d in
-      let k : s ≤ d = omega (arith, mod-lt c {m = 2 * d} (omega arith)) in
-      let e : 2 ^ d - 2 ^ s ≡ (2 ^ d - 1) - (2 ^ s - 1) = omega (arith, pow-pos s) in
-      e ∙ ext d (omega (arith, pow-pos d)) (turned-lt pos c) (λ t l. same t l (decLt t s) ∙ sym (steps-bit t l))
-    where
-      low-lt : 2 ^ (c % (2 * d) - d) - 1 < 2 ^ d
-      low-lt =
-          let k : c % (2 * d) - d ≤ d = omega (arith, mod-lt c {m = 2 * d} (omega arith)) in
-          omega (arith, ones-lt (c % (2 * d) - d), pow-mono k)
-
-      same : (t : ℕ) → t < d → Dec (t < c % (2 * d) - d)
-          → bit ((2 ^ d - 1) - (2 ^ (c % (2 * d) - d) - 1)) t ≡ (c % (2 * d) + (d - 1 - t)) / d % 2
-      same t l (yes k) =
-          bit-not d t low-lt l
-          ∙ omega (
-            arith,
-            bit-ones (c % (2 * d) - d) t k,
-            quotient (c % (2 * d) + (d - 1 - t)) 2 (omega arith) (omega (arith, mod-lt c {m = 2 * d} (omega arith))),
-          )
-      same t l (no n) =
-          bit-not d t low-lt l
-          ∙ omega (
-            arith,
-            bit-ones-above (c % (2 * d) - d) t (omega arith),
-            quotient (c % (2 * d) + (d - 1 - t)) 1 (omega arith) (omega arith),
-          )
 
 -- the control bits of one block more
 
@@ -129,15 +117,13 @@ block-small d j n pos h l =
 
 module _ (L i : ℕ) (h : i < L) (l : L ≤ 6) where
   abbrev distance : ℕ
-  distance = getD distanceTable (6 - L + i) 0
+  distance = 1 * 2 ^ (L - 1 - i) % 2 ^ 64
 
   abbrev blocks : ℕ
   blocks = 1 * 2 ^ i % 2 ^ 64
 
   distance-is : distance ≡ getD (falling L) i 0
-  distance-is =
-      let e : 5 - (6 - L + i) ≡ L - 1 - i = omega arith in
-      distance-at (6 - L + i) (omega arith) ∙ ap (λ (n : ℕ). 2 ^ n) e ∙ sym (falling-at L i h)
+  distance-is = shl-one (L - 1 - i) (omega arith) ∙ sym (falling-at L i h)
 
   switches : distance * blocks ≡ 2 ^ L / 2
   switches =

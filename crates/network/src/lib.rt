@@ -255,16 +255,14 @@ pub fn inverse(width: u32, controls: Controls, word: u64) -> Carried
     through(true, width, controls, word)
 }
 
-// internal: a distance of 1 to 32. As many zeros turned left `count` steps: after `distance` steps all are ones, after twice as many zeros again.
+// internal: a distance of 1 to 32. As many zeros turned left `count` steps: as many ones come in at the right and go out at the left.
 fn turned_bits(distance: u64, count: u64) -> u64
     requires { ⌜ (0 < distance) × (distance ≤ 32) ⌝ }
     ensures { λ r. ⌜ r ≡ turned distance count ⌝ }
 {
+    let ones = (1 << distance) - 1;
     let steps = count % (2 * distance);
-    if steps <= distance {
-        return (1 << steps) - 1;
-    }
-    (1 << distance) - (1 << (steps - distance))
+    ((ones << steps) >> distance) & ones
 }
 
 // internal: at most 32 control bits, `distance` for each block. The control bits of one stage.
@@ -290,7 +288,7 @@ fn decode_stages(log: usize, mask: u64) -> [u32; 6]
     let mut stages = [0u32; 6];
     let mut at: usize = 0;
     while at < log {
-        stages[at] = stage_bits(DISTANCES[6 - log + at], 1 << at, mask) as u32;
+        stages[at] = stage_bits(1 << (log - 1 - at), 1 << at, mask) as u32;
         at += 1;
     }
     stages

@@ -1,6 +1,6 @@
 -- `network::decode_stages` meets its contract. Assumes nothing.
-use mathlib.Core.Path.{_≡_, refl, sym, _∙_, ap}
-use Prim.Native.Nat.{ℕ, _+_, _-_, _*_, _^_, _≤_, _<_}
+use mathlib.Core.Path.{_≡_, _∙_}
+use Prim.Native.Nat.{_-_, _≤_}
 use native.Mathlib.Omega.{arith}
 use Rattle.network.specs.Decoder.{decodeOf}
 use Rattle.network.proofs.Filling.{filled, fill-turn, fill-end}
@@ -25,17 +25,14 @@ loop-holds c = search needs
 sub-stage-bits : tie.Need-sub-stage-bits Inv-loop μ-loop
 sub-stage-bits c = search needs
 
-add-stage-bits : tie.Need-add-stage-bits Inv-loop μ-loop
-add-stage-bits c = search needs
-
-mul-stage-bits : tie.Need-mul-stage-bits Inv-loop μ-loop
-mul-stage-bits c = search needs
-
-array-read-stage-bits : tie.Need-array-read-stage-bits Inv-loop μ-loop
-array-read-stage-bits c = search needs
+sub-stage-bits-2 : tie.Need-sub-stage-bits-2 Inv-loop μ-loop
+sub-stage-bits-2 c = search needs
 
 shl-stage-bits : tie.Need-shl-stage-bits Inv-loop μ-loop
 shl-stage-bits c = search needs
+
+shl-stage-bits-2 : tie.Need-shl-stage-bits-2 Inv-loop μ-loop
+shl-stage-bits-2 c = search needs
 
 stage-bits-requires : tie.Need-stage-bits-requires Inv-loop μ-loop
 stage-bits-requires c κs =
@@ -82,10 +79,9 @@ decode-stages-spec =
     μ-loop
     loop-holds
     sub-stage-bits
-    add-stage-bits
-    mul-stage-bits
-    array-read-stage-bits
+    sub-stage-bits-2
     shl-stage-bits
+    shl-stage-bits-2
     stage-bits-requires
     cast-stages
     mul-stages
