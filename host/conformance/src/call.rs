@@ -1,6 +1,7 @@
 //! A call of the library beside its model.
 
 use crate::controls::Controls;
+use crate::guards::only_read;
 use model::decoder::Decoded;
 use model::refusal::Answer;
 use model::routing::Routed;
@@ -66,7 +67,11 @@ pub const GROUP: Call<u64> = Call {
 /// The butterfly.
 pub const BUTTERFLY: Call<Controls> = Call {
     name: "butterfly",
-    raw: |width, controls, word| carried(tigbayon::tb_butterfly(width, &controls, word)),
+    raw: |width, controls, word| {
+        carried(on_stages(controls, |stages| {
+            tigbayon::tb_butterfly(width, stages, word)
+        }))
+    },
     wrapped: |width, controls, word| tigbayon::butterfly(width, &controls.into(), word),
     model: |width, controls, word| model::network::butterfly(width, &controls, word),
 };
@@ -74,7 +79,11 @@ pub const BUTTERFLY: Call<Controls> = Call {
 /// The inverse butterfly.
 pub const INVERSE: Call<Controls> = Call {
     name: "inverse",
-    raw: |width, controls, word| carried(tigbayon::tb_inverse(width, &controls, word)),
+    raw: |width, controls, word| {
+        carried(on_stages(controls, |stages| {
+            tigbayon::tb_inverse(width, stages, word)
+        }))
+    },
     wrapped: |width, controls, word| tigbayon::inverse(width, &controls.into(), word),
     model: |width, controls, word| model::network::inverse(width, &controls, word),
 };
@@ -96,7 +105,11 @@ pub const DECODE: Call<u64, Decoded, ()> = Call {
 /// Routing through both networks.
 pub const ROUTE: Call<[u8], Routed, ()> = Call {
     name: "route",
-    raw: |width, permutation, ()| routed(tigbayon::tb_route(width, permutation)),
+    raw: |width, permutation, ()| {
+        routed(only_read(permutation, |permutation| {
+            tigbayon::tb_route(width, permutation)
+        }))
+    },
     wrapped: |width, permutation, ()| {
         let routed = tigbayon::route(width, permutation)?;
         Ok(Routed {
@@ -110,7 +123,11 @@ pub const ROUTE: Call<[u8], Routed, ()> = Call {
 /// Routing through the butterfly alone.
 pub const ROUTE_BUTTERFLY: Call<[u8], Controls, ()> = Call {
     name: "route_butterfly",
-    raw: |width, permutation, ()| controls(tigbayon::tb_route_butterfly(width, permutation)),
+    raw: |width, permutation, ()| {
+        controls(only_read(permutation, |permutation| {
+            tigbayon::tb_route_butterfly(width, permutation)
+        }))
+    },
     wrapped: |width, permutation, ()| {
         tigbayon::route_butterfly(width, permutation).map(|controls| controls.stages)
     },
@@ -120,7 +137,11 @@ pub const ROUTE_BUTTERFLY: Call<[u8], Controls, ()> = Call {
 /// Routing through the inverse alone.
 pub const ROUTE_INVERSE: Call<[u8], Controls, ()> = Call {
     name: "route_inverse",
-    raw: |width, permutation, ()| controls(tigbayon::tb_route_inverse(width, permutation)),
+    raw: |width, permutation, ()| {
+        controls(only_read(permutation, |permutation| {
+            tigbayon::tb_route_inverse(width, permutation)
+        }))
+    },
     wrapped: |width, permutation, ()| {
         tigbayon::route_inverse(width, permutation).map(|controls| controls.stages)
     },
@@ -200,6 +221,13 @@ pub fn decode(width: u32, mask: u64) -> Decoded {
 /// The checked controls of a permutation that must be accepted.
 pub fn route(width: u32, permutation: &[u8]) -> Routed {
     ROUTE.result(width, permutation, ())
+}
+
+/// What a call of stages, which it only reads, answers.
+fn on_stages<A>(controls: Controls, call: impl FnOnce(&Controls) -> A) -> A {
+    only_read(&controls, |stages| {
+        call(stages.try_into().expect("six stages"))
+    })
 }
 
 fn gathered(TbGathered { refusal, word }: TbGathered) -> Answer<u64> {

@@ -2,6 +2,7 @@
 
 pub mod call;
 pub mod controls;
+pub mod guards;
 pub mod permutations;
 pub mod programs;
 pub mod refusals;

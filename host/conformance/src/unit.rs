@@ -1,6 +1,7 @@
 //! The register unit beside its model.
 
 use crate::call::assert_agree;
+use crate::guards::only_read;
 use model::refusal::Answer;
 pub use model::unit::{Bank, End, Operation, Run};
 use std::fmt::Debug;
@@ -21,7 +22,7 @@ pub fn operate(bank: &mut Bank, operation: Operation) -> Answer<u32> {
 /// Runs a list, checked likewise.
 pub fn run(bank: &mut Bank, list: &[u8], budget: u32) -> Answer<Run> {
     let call = UnitCall {
-        raw: |bank: &mut TbBank| ran(tigbayon::tb_run(bank, list, budget)),
+        raw: |bank: &mut TbBank| ran(only_read(list, |list| tigbayon::tb_run(bank, list, budget))),
         wrapped: |bank: &mut tigbayon::Bank| bank.run(list, budget).map(wrapped_run),
         model: |bank: &mut Bank| model::unit::run(bank, list, budget),
     };
