@@ -1,7 +1,9 @@
 //! What the tests share: each call beside its model, and inputs for it.
 
+pub mod arbitrary;
 pub mod call;
 pub mod controls;
+pub mod fuzz;
 pub mod guards;
 pub mod permutations;
 pub mod programs;

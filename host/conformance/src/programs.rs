@@ -111,11 +111,18 @@ pub fn program(random: &mut Random, operations: u32) -> Vec<u8> {
         let form = &FORMS[random.below(13) as usize];
         let mut bytes = [written, read, read].map(|bound| random.below(bound) as u8);
         for place in form.unused_places() {
-            bytes[place - 1] = random.below(256) as u8;
+            bytes[place - 1] = random.byte();
         }
         form.operation(bytes)
     };
     (0..operations).flat_map(&mut operation).collect()
+}
+
+/// Makes a byte of the list, if it has any, another one.
+pub fn damage(random: &mut Random, list: &mut [u8]) {
+    if !list.is_empty() {
+        list[random.below(list.len() as u32) as usize] = random.byte();
+    }
 }
 
 /// One operation of each form, on registers that differ where they can.

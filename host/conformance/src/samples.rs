@@ -10,12 +10,18 @@ use model::refusal::Answer;
 /// The seed of every test's samples.
 pub const SEED: u64 = 0x5449_4742_4159_4F4E;
 
-/// SplitMix64, from [`SEED`].
+/// SplitMix64, by default from [`SEED`].
 pub struct Random(u64);
 
 impl Default for Random {
     fn default() -> Self {
-        Random(SEED)
+        Random::from(SEED)
+    }
+}
+
+impl From<u64> for Random {
+    fn from(seed: u64) -> Self {
+        Random(seed)
     }
 }
 
@@ -34,8 +40,13 @@ impl Random {
         (self.word() % u64::from(bound)) as u32
     }
 
+    /// A random byte.
+    pub fn byte(&mut self) -> u8 {
+        self.word() as u8
+    }
+
     /// One of these.
-    fn pick<T: Copy>(&mut self, choices: &[T]) -> T {
+    pub fn pick<T: Copy>(&mut self, choices: &[T]) -> T {
         choices[self.below(choices.len() as u32) as usize]
     }
 }
@@ -71,6 +82,12 @@ fn word(random: &mut Random, shape: Shape, width: u32) -> u64 {
     shape(random, width) & low_ones(width)
 }
 
+/// A word of some shape.
+pub fn any_word(random: &mut Random, width: u32) -> u64 {
+    let shape = random.pick(&SHAPES);
+    word(random, shape, width)
+}
+
 /// Controls of this width, each stage of this shape.
 fn controls(random: &mut Random, shape: Shape, width: u32) -> Controls {
     let mut controls = Controls::default();
@@ -78,6 +95,12 @@ fn controls(random: &mut Random, shape: Shape, width: u32) -> Controls {
         *stage = word(random, shape, width / 2) as u32;
     }
     controls
+}
+
+/// Controls whose stages have some shape.
+pub fn any_controls(random: &mut Random, width: u32) -> Controls {
+    let shape = random.pick(&SHAPES);
+    controls(random, shape, width)
 }
 
 /// A kind of permutation, made for a width.
@@ -91,6 +114,11 @@ const PERMUTATION_SHAPES: [PermutationShape; 6] = [
     |random, width| by_network(random, width, network::butterfly),
     |random, width| by_network(random, width, network::inverse),
 ];
+
+/// A permutation of some shape.
+pub fn any_permutation(random: &mut Random, width: u32) -> Vec<u8> {
+    random.pick(&PERMUTATION_SHAPES)(random, width)
+}
 
 /// A permutation, any of them alike.
 pub fn random_permutation(random: &mut Random, width: u32) -> Vec<u8> {
@@ -118,8 +146,7 @@ fn by_network(
     width: u32,
     network: fn(u32, &Controls, u64) -> Answer<u64>,
 ) -> Vec<u8> {
-    let shape = random.pick(&SHAPES);
-    let controls = controls(random, shape, width);
+    let controls = any_controls(random, width);
     realised(width, |word| network(width, &controls, word).result)
 }
 

@@ -1,7 +1,7 @@
 //! Damaged operations and lists get the lowest number that applies, zeros for
 //! the rest, and leave every register as it was.
 
-use conformance::programs::{bank, each_form, program, refusal, Form, FORMS, LONGEST};
+use conformance::programs::{bank, damage, each_form, program, refusal, Form, FORMS, LONGEST};
 use conformance::samples::Random;
 use conformance::unit::{assert_number, operate, read, run, write, Bank, Operation};
 
@@ -116,8 +116,7 @@ fn random_lists_with_damaged_operations() {
         let length = 1 + random.below(12);
         let mut list = program(&mut random, length);
         for _ in 0..1 + random.below(2) {
-            let place = random.below(4 * length) as usize;
-            list[place] = random.below(256) as u8;
+            damage(&mut random, &mut list);
         }
         let numbers = list.chunks(4).map(refusal).filter(|&number| number != 0);
         let number = numbers.min().unwrap_or(0);

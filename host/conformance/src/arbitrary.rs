@@ -1,0 +1,158 @@
+//! Arguments of every sort: most are good, some damaged, and the widths, the
+//! lengths and the cuts reach their limits and beyond.
+
+use crate::controls::Controls;
+use crate::programs::{cycles, damage, program};
+use crate::samples::{any_controls, any_permutation, any_word, Random};
+use crate::strips::{words_needed, LONGEST};
+use crate::unit::Operation;
+use crate::WIDTHS;
+
+/// A width to hand over, and the accepted one that the other arguments are made
+/// for, which mostly is the same.
+pub fn widths(random: &mut Random) -> (u32, u32) {
+    let width = random.pick(&WIDTHS);
+    let handed = match random.below(16) {
+        0 => random.pick(&WIDTHS),
+        1 => random.below(130),
+        2 => random.word() as u32,
+        // A narrower integer would cut it to the accepted one.
+        3 => width | 1 << (8 + random.below(24)),
+        _ => width,
+    };
+    (handed, width)
+}
+
+/// A word or a mask; some have ones above the width.
+pub fn word(random: &mut Random, width: u32) -> u64 {
+    match random.below(16) {
+        0 => any_word(random, 64),
+        1 => any_word(random, width) | 1 << random.below(64),
+        _ => any_word(random, width),
+    }
+}
+
+/// Controls; some have ones in unused bits or stages.
+pub fn controls(random: &mut Random, width: u32) -> Controls {
+    let mut controls = any_controls(random, width);
+    match random.below(16) {
+        0 => controls = any_controls(random, 64),
+        1 | 2 => controls[random.below(6) as usize] |= 1 << random.below(32),
+        _ => {}
+    }
+    controls
+}
+
+/// A permutation; some have another length, entries that are out of range, or
+/// repeated ones.
+pub fn permutation(random: &mut Random, width: u32) -> Vec<u8> {
+    let mut permutation = any_permutation(random, width);
+    let [one, other] = [(); 2].map(|()| random.below(width) as usize);
+    match random.below(16) {
+        0 => permutation.clear(),
+        1 => permutation.truncate(one),
+        2 => permutation.resize(one + other, random.byte()),
+        3 => permutation[one] = random.byte(),
+        4 => permutation[one] = permutation[other],
+        5 => permutation = bytes(random, width),
+        _ => {}
+    }
+    permutation
+}
+
+/// So many bytes.
+fn bytes(random: &mut Random, count: u32) -> Vec<u8> {
+    (0..count).map(|_| random.byte()).collect()
+}
+
+/// The length of a strip: mostly short, or around the greatest.
+pub fn length(random: &mut Random) -> usize {
+    match random.below(32) {
+        0 => LONGEST - 1 + random.below(3) as usize,
+        _ => random.below(41) as usize,
+    }
+}
+
+/// Numbers a and b for a strip of this length; some do not cut it.
+pub fn cut(random: &mut Random, length: usize) -> (usize, usize) {
+    let [one, other] = [(); 2].map(|()| random.below(length as u32 + 1) as usize);
+    match random.below(16) {
+        0 => (number(random, length), number(random, length)),
+        1 => (one, number(random, length)),
+        2 => (one, other),
+        3 | 4 => (0, length),
+        _ => (one.min(other), one.max(other)),
+    }
+}
+
+/// A number around the ends of a strip, or far beyond.
+fn number(random: &mut Random, length: usize) -> usize {
+    let any = random.word() as usize;
+    let near = random.below(4) as usize;
+    let beyond = [usize::MAX, usize::MAX - near, usize::MAX / 2 + near];
+    let around = [near, length, length + 1 + near, LONGEST + near];
+    // Products with a count of bits wrap around.
+    let wrapping = [any, any << 58, (any << 58) + near];
+    random.pick(&[&beyond[..], &around, &wrapping].concat())
+}
+
+/// The length of the strip that a and b do not cut; some are shorter by a word
+/// than the bits need.
+pub fn other_length(random: &mut Random, mask: u64, (a, b): (usize, usize)) -> usize {
+    if a > b || b > LONGEST {
+        return length(random);
+    }
+    let needed = words_needed(mask, a, b);
+    match random.below(8) {
+        0 | 1 => needed.saturating_sub(1),
+        2 => needed + random.below(4) as usize,
+        3 => length(random),
+        _ => needed,
+    }
+}
+
+/// An operation; some bytes are any.
+pub fn operation(random: &mut Random) -> Operation {
+    let mut operation = program(random, 1);
+    if random.below(2) == 0 {
+        damage(random, &mut operation);
+    }
+    operation.try_into().expect("four bytes")
+}
+
+/// A list of operations; some have another length, or bytes that are any.
+pub fn list(random: &mut Random) -> Vec<u8> {
+    let operations = match random.below(32) {
+        0 => 1_024,
+        1 => 1_025,
+        _ => random.below(13),
+    };
+    let mut list = program(random, operations);
+    match random.below(8) {
+        0 | 1 => damage(random, &mut list),
+        2 => list.truncate(list.len().saturating_sub(1 + random.below(3) as usize)),
+        3 => {
+            let count = random.below(41);
+            list = bytes(random, count);
+        }
+        _ => {}
+    }
+    list
+}
+
+/// A budget for this list: none, small, around its cycles, or any.
+pub fn budget(random: &mut Random, list: &[u8]) -> u32 {
+    let total = cycles(list);
+    let within = random.below(total + 2);
+    let any = random.word() as u32;
+    let one_less = total.saturating_sub(1);
+    random.pick(&[0, 1, 2, 3, within, within, one_less, total, any, u32::MAX])
+}
+
+/// The number of a register; some are above 15.
+pub fn register(random: &mut Random) -> u8 {
+    match random.below(4) {
+        0 => random.byte(),
+        _ => random.below(17) as u8,
+    }
+}

@@ -1,0 +1,161 @@
+//! Every exported call on arbitrary arguments, held against its model in the
+//! whole answer and in everything that is lent.
+
+use crate::arbitrary::{budget, controls, cut, length, list, operation, other_length};
+use crate::arbitrary::{permutation, register, widths, word};
+use crate::call::{Call, BUTTERFLY, DECODE, GATHER, GROUP, INVERSE, SCATTER};
+use crate::call::{ROUTE, ROUTE_BUTTERFLY, ROUTE_INVERSE};
+use crate::controls::Controls;
+use crate::programs::bank;
+use crate::samples::Random;
+use crate::strips::{StripCall, PACK, UNPACK};
+use crate::unit::{operate, read, run, write};
+use std::fmt::{self, Debug, Display, Formatter};
+use std::iter::zip;
+use std::panic::{catch_unwind, resume_unwind};
+
+/// How many refusal numbers there are, 0 among them.
+const NUMBERS: usize = 11;
+
+/// An exported call.
+struct Target {
+    name: &'static str,
+    /// The refusal numbers that it can answer.
+    numbers: &'static [usize],
+    /// Checks it on arbitrary arguments and answers the number.
+    check: fn(&mut Random) -> u8,
+}
+
+const TARGETS: [Target; 15] = [
+    target("gather", &[0, 1, 2], |random| masked(random, GATHER)),
+    target("scatter", &[0, 1, 2], |random| masked(random, SCATTER)),
+    target("group", &[0, 1, 2], |random| masked(random, GROUP)),
+    target("butterfly", &[0, 1, 2, 3], |random| {
+        carried(random, BUTTERFLY)
+    }),
+    target("inverse", &[0, 1, 2, 3], |random| carried(random, INVERSE)),
+    target("decode", &[0, 1, 2], |random| {
+        let (handed, width) = widths(random);
+        DECODE.check(handed, word(random, width), ()).refusal
+    }),
+    target("route", &[0, 1, 4, 5], |random| routed(random, ROUTE)),
+    target("route_butterfly", &[0, 1, 4, 5, 6], |random| {
+        routed(random, ROUTE_BUTTERFLY)
+    }),
+    target("route_inverse", &[0, 1, 4, 5, 6], |random| {
+        routed(random, ROUTE_INVERSE)
+    }),
+    target("pack", &[0, 9, 10], |random| packed(random, PACK)),
+    target("unpack", &[0, 9, 10], |random| packed(random, UNPACK)),
+    target("operate", &[0, 7, 8], |random| {
+        operate(&mut bank(random), operation(random)).refusal
+    }),
+    target("run", &[0, 4, 7, 8], |random| {
+        let list = list(random);
+        let budget = budget(random, &list);
+        run(&mut bank(random), &list, budget).refusal
+    }),
+    target("read", &[0, 8], |random| {
+        read(&bank(random), register(random)).refusal
+    }),
+    target("write", &[0, 8], |random| {
+        write(&mut bank(random), register(random), random.word()).refusal
+    }),
+];
+
+const fn target(
+    name: &'static str,
+    numbers: &'static [usize],
+    check: fn(&mut Random) -> u8,
+) -> Target {
+    Target {
+        name,
+        numbers,
+        check,
+    }
+}
+
+fn masked(random: &mut Random, call: Call<u64>) -> u8 {
+    let (handed, width) = widths(random);
+    let mask = word(random, width);
+    call.check(handed, mask, word(random, width)).refusal
+}
+
+fn carried(random: &mut Random, call: Call<Controls>) -> u8 {
+    let (handed, width) = widths(random);
+    let controls = controls(random, width);
+    call.check(handed, controls, word(random, width)).refusal
+}
+
+fn routed<R: Copy + Debug + PartialEq>(random: &mut Random, call: Call<[u8], R, ()>) -> u8 {
+    let (handed, width) = widths(random);
+    call.check(handed, &permutation(random, width), ()).refusal
+}
+
+fn packed(random: &mut Random, call: StripCall) -> u8 {
+    let mask = word(random, 64);
+    let length = length(random);
+    let (a, b) = cut(random, length);
+    let other = other_length(random, mask, (a, b));
+    let (first, mut second) = call.strips(random, length, other);
+    call.check(mask, &first, a, b, &mut second).refusal
+}
+
+/// For each call, how often it answered each refusal number.
+#[derive(Default)]
+pub struct Tally([[u64; NUMBERS]; TARGETS.len()]);
+
+impl Tally {
+    /// Panics unless each call answered every number that it can, and no other.
+    pub fn assert_complete(&self) {
+        for (target, counts) in zip(&TARGETS, &self.0) {
+            let answered: Vec<usize> = (0..NUMBERS).filter(|&n| counts[n] > 0).collect();
+            assert_eq!(answered, target.numbers, "{}\n{self}", target.name);
+        }
+    }
+}
+
+impl Display for Tally {
+    fn fmt(&self, f: &mut Formatter<'_>) -> fmt::Result {
+        write!(f, "{:<16} {:>9} |", "call", "calls")?;
+        (0..NUMBERS).try_for_each(|number| write!(f, " {number:>8}"))?;
+        for (target, counts) in zip(&TARGETS, &self.0) {
+            let calls: u64 = counts.iter().sum();
+            write!(f, "\n{:<16} {calls:>9} |", target.name)?;
+            for (number, count) in counts.iter().enumerate() {
+                // A number that the call cannot answer is left out.
+                let shown = target.numbers.contains(&number) || *count > 0;
+                let count = if shown { count.to_string() } else { "".into() };
+                write!(f, " {count:>8}")?;
+            }
+        }
+        Ok(())
+    }
+}
+
+/// Makes so many calls. Each has a seed of its own, this one plus its number, so
+/// that it can be made again alone; that is said if it does not agree with the
+/// model, before the panic goes on.
+pub fn fuzz(calls: u64, seed: u64) -> Tally {
+    println!("seed {seed:#x}");
+    let mut tally = Tally::default();
+    for number in 0..calls {
+        let own_seed = seed.wrapping_add(number);
+        let checked = catch_unwind(|| {
+            let mut random = Random::from(own_seed);
+            let target = random.below(TARGETS.len() as u32) as usize;
+            (target, (TARGETS[target].check)(&mut random))
+        });
+        match checked {
+            Ok((target, refusal)) => tally.0[target][usize::from(refusal)] += 1,
+            Err(panic) => {
+                const FUZZ: &str = "cargo run --offline -p conformance --bin fuzz --";
+                println!("call {number} from seed {seed:#x} does not agree");
+                println!("that call again:        {FUZZ} 1 {own_seed:#x}");
+                println!("with those before it:   {FUZZ} {} {seed:#x}", number + 1);
+                resume_unwind(panic);
+            }
+        }
+    }
+    tally
+}
