@@ -9,6 +9,7 @@ pub mod permutations;
 pub mod programs;
 pub mod refusals;
 pub mod samples;
+pub mod stack;
 pub mod strips;
 pub mod unit;
 

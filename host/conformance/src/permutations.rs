@@ -49,6 +49,18 @@ pub fn unshuffle(width: u32) -> Vec<u8> {
     permutation(width, |place| place * 2 % width + place * 2 / width)
 }
 
+/// One whose outer stages' switches are bound into one loop, so that routing
+/// goes the longest way round; its lower half is such a permutation again.
+pub fn one_loop(width: u32) -> Vec<u8> {
+    if width == 1 {
+        return identity(1);
+    }
+    let half = width as u8 / 2;
+    let lower = one_loop(width / 2);
+    let upper = lower.iter().map(|&bit| half + (bit + 1) % half);
+    lower.iter().copied().chain(upper).collect()
+}
+
 /// One permutation, then another.
 pub fn product(one: &[u8], then: &[u8]) -> Vec<u8> {
     then.iter().map(|&bit| one[usize::from(bit)]).collect()

@@ -1,0 +1,162 @@
+//! The stack that each exported call uses, at its deepest over many inputs.
+//! With `--nocapture` the bytes are printed.
+
+use conformance::arbitrary::{controls, cut, list, operation, permutation};
+use conformance::arbitrary::{register, widths, word};
+use conformance::permutations::{one_loop, FIXED};
+use conformance::programs::{bank, program};
+use conformance::samples::{random_permutation, strip, Random};
+use conformance::stack::bytes_used;
+use conformance::strips::LONGEST;
+use conformance::unit::lent;
+use conformance::WIDTHS;
+use model::routing::valid_stage;
+use std::hint::black_box;
+use std::thread;
+use tigbayon::{
+    tb_butterfly, tb_decode, tb_gather, tb_group, tb_inverse, tb_operate, tb_pack, tb_read,
+    tb_route, tb_route_butterfly, tb_route_inverse, tb_run, tb_scatter, tb_unpack, tb_write,
+    TbCarried, TbGathered, TbPacked,
+};
+
+/// No call may use as many bytes.
+const LIMIT: usize = 16 * 1_024;
+
+/// How often each call is measured, on inputs of every sort each time.
+const ROUNDS: u32 = 300;
+
+/// The stack of the thread that measures a call, paint and all.
+const STACK: usize = 1 << 20;
+
+/// The deepest use so far, and where inputs come from.
+#[derive(Default)]
+struct Gauge {
+    random: Random,
+    deepest: usize,
+}
+
+impl Gauge {
+    fn measure<A>(&mut self, mut call: impl FnMut() -> A) {
+        let used = bytes_used(&mut || drop(black_box(call())));
+        self.deepest = self.deepest.max(used);
+    }
+}
+
+/// Measures a call once on each sort of input.
+type Measure = fn(&mut Gauge);
+
+const CALLS: [(&str, Measure); 16] = [
+    ("(none)", |gauge| gauge.measure(|| ())),
+    ("tb_gather", |gauge| masked(gauge, tb_gather)),
+    ("tb_scatter", |gauge| masked(gauge, tb_scatter)),
+    ("tb_group", |gauge| masked(gauge, tb_group)),
+    ("tb_butterfly", |gauge| carried(gauge, tb_butterfly)),
+    ("tb_inverse", |gauge| carried(gauge, tb_inverse)),
+    ("tb_decode", |gauge| {
+        let (handed, width) = widths(&mut gauge.random);
+        let mask = word(&mut gauge.random, width);
+        gauge.measure(|| tb_decode(handed, mask));
+    }),
+    ("tb_route", |gauge| routed(gauge, tb_route)),
+    ("tb_route_butterfly", |gauge| {
+        routed(gauge, tb_route_butterfly)
+    }),
+    ("tb_route_inverse", |gauge| routed(gauge, tb_route_inverse)),
+    ("tb_pack", |gauge| packed(gauge, tb_pack)),
+    ("tb_unpack", |gauge| packed(gauge, tb_unpack)),
+    ("tb_operate", |gauge| {
+        let [kind, r1, r2, r3] = operation(&mut gauge.random);
+        let mut bank = lent(&bank(&mut gauge.random));
+        gauge.measure(|| tb_operate(&mut bank, kind, r1, r2, r3));
+    }),
+    ("tb_run", |gauge| {
+        let longest = program(&mut gauge.random, 1_024);
+        for list in [longest, list(&mut gauge.random)] {
+            let mut bank = lent(&bank(&mut gauge.random));
+            gauge.measure(|| tb_run(&mut bank, &list, u32::MAX));
+        }
+    }),
+    ("tb_read", |gauge| {
+        let bank = lent(&bank(&mut gauge.random));
+        let number = register(&mut gauge.random);
+        gauge.measure(|| tb_read(&bank, number));
+    }),
+    ("tb_write", |gauge| {
+        let mut bank = lent(&bank(&mut gauge.random));
+        let number = register(&mut gauge.random);
+        gauge.measure(|| tb_write(&mut bank, number, !0));
+    }),
+];
+
+fn masked(gauge: &mut Gauge, call: extern "C" fn(u32, u64, u64) -> TbGathered) {
+    let (handed, width) = widths(&mut gauge.random);
+    let [mask, word] = [(); 2].map(|()| word(&mut gauge.random, width));
+    gauge.measure(|| call(handed, mask, word));
+}
+
+fn carried(gauge: &mut Gauge, call: extern "C" fn(u32, &[u32; 6], u64) -> TbCarried) {
+    let (handed, width) = widths(&mut gauge.random);
+    let controls = controls(&mut gauge.random, width);
+    let word = word(&mut gauge.random, width);
+    gauge.measure(|| call(handed, &controls, word));
+}
+
+fn routed<A>(gauge: &mut Gauge, call: impl Fn(u32, &[u8]) -> A) {
+    for width in WIDTHS {
+        let mut permutations: Vec<_> = FIXED.iter().map(|fixed| fixed(width)).collect();
+        permutations.push(one_loop(width));
+        permutations.push(random_permutation(&mut gauge.random, width));
+        permutations.push(permutation(&mut gauge.random, width));
+        for permutation in permutations {
+            gauge.measure(|| call(width, &permutation));
+        }
+    }
+}
+
+fn packed(gauge: &mut Gauge, call: impl Fn(u64, &[u64], usize, usize, &mut [u64]) -> TbPacked) {
+    let random = &mut gauge.random;
+    let mask = word(random, 64);
+    let first = strip(random, LONGEST);
+    let mut second = first.clone();
+    for (a, b) in [(0, LONGEST), cut(random, LONGEST)] {
+        gauge.measure(|| call(mask, &first, a, b, &mut second));
+    }
+}
+
+/// Measured on a thread, so that the stack is a fresh one.
+fn deepest(measure: Measure) -> usize {
+    let measured = move || {
+        let mut gauge = Gauge::default();
+        (0..ROUNDS).for_each(|_| measure(&mut gauge));
+        gauge.deepest
+    };
+    let thread = thread::Builder::new().stack_size(STACK).spawn(measured);
+    let joined = thread.expect("a thread starts").join();
+    joined.expect("each call returns")
+}
+
+#[test]
+fn each_call_uses_less_than_16_kib() {
+    println!("{:<20} {:>6}", "call", "bytes");
+    for (name, measure) in CALLS {
+        let bytes = deepest(measure);
+        println!("{name:<20} {bytes:>6}");
+        assert!(bytes < LIMIT, "{name} uses {bytes} bytes of stack");
+    }
+}
+
+/// So that routing it is measured at its deepest.
+#[test]
+fn one_loop_is_one() {
+    for width in WIDTHS {
+        let permutation = one_loop(width);
+        let permutation: Vec<usize> = permutation.iter().map(|&bit| bit.into()).collect();
+        let mut loops = 0;
+        let mut count = || {
+            loops += 1;
+            true
+        };
+        valid_stage(&mut count, &permutation);
+        assert_eq!(loops, 1, "width {width}");
+    }
+}
