@@ -1,25 +1,39 @@
-//! Times the library's calls beside peers in plain Rust.
+//! Times the library's calls beside peers in plain Rust, and by the size of
+//! their inputs.
 //!
 //! `cargo run --release --offline -p bench` runs every bench; an argument
 //! picks those whose name contains it.
+//!
+//! The library's calls cross the C boundary and so cannot be inlined into the
+//! timing loop. A peer is kept out of it likewise: what is compared is one call
+//! with one call.
+//!
+//! `-p bench -- count CALL CALLS` times nothing: it makes the call so many times
+//! on its largest random inputs, which are made even if that is 0, for a tool
+//! that counts instructions. `-p bench -- count` prints the names of the calls.
 
 mod bmi2;
+mod contest;
+mod growth;
 mod masks;
 mod networks;
 mod packing;
 mod routing;
+mod table;
 mod timing;
+mod twin;
 
+use growth::GROWTHS;
 use std::env;
 use std::process::ExitCode;
 
-/// The width of every bench.
+/// The width of every contest.
 const WIDTH: u32 = 64;
 
-/// A bench runs the call of its name.
+/// A contest runs the call of its name.
 type Bench = (&'static str, fn(&str));
 
-const BENCHES: [Bench; 11] = [
+const CONTESTS: [Bench; 11] = [
     ("butterfly", networks::butterfly),
     ("inverse", networks::inverse),
     ("decode", networks::decode),
@@ -33,20 +47,62 @@ const BENCHES: [Bench; 11] = [
     ("unpack", packing::unpack),
 ];
 
+const BY_MASK: &str = "by mask";
+
 fn main() -> ExitCode {
-    let wanted = env::args().nth(1).unwrap_or_default();
-    let mut chosen = BENCHES
-        .into_iter()
-        .filter(|(name, _)| name.contains(&wanted))
-        .peekable();
-    if chosen.peek().is_none() {
-        let names = BENCHES.map(|(name, _)| name).join(", ");
-        eprintln!("no bench has {wanted} in its name; there are {names}");
+    let arguments: Vec<String> = env::args().skip(1).collect();
+    let arguments: Vec<&str> = arguments.iter().map(String::as_str).collect();
+    let done = match arguments[..] {
+        [] => run(""),
+        ["count"] => {
+            growth::names().for_each(|name| println!("{name}"));
+            Some(())
+        }
+        [wanted] => run(wanted),
+        ["count", call, calls] => count(call, calls),
+        _ => None,
+    };
+    if done.is_none() {
+        eprintln!(
+            "usage: bench [NAME | count [CALL CALLS]]; there are {}",
+            names().join(", ")
+        );
         return ExitCode::FAILURE;
     }
-    timing::print_heading();
-    for (name, run) in chosen {
+    ExitCode::SUCCESS
+}
+
+/// The names of all benches.
+fn names() -> Vec<&'static str> {
+    let contests = CONTESTS.iter().map(|(name, _)| *name);
+    let growths = GROWTHS.iter().map(|growth| growth.name);
+    contests.chain([BY_MASK]).chain(growths).collect()
+}
+
+/// Runs the benches whose name contains this; none if there are none.
+fn run(wanted: &str) -> Option<()> {
+    names().iter().find(|name| name.contains(wanted))?;
+    let mut contests = CONTESTS
+        .iter()
+        .filter(|(name, _)| name.contains(wanted))
+        .peekable();
+    if contests.peek().is_some() {
+        contest::print_heading();
+    }
+    for (name, run) in contests {
         run(name);
     }
-    ExitCode::SUCCESS
+    if BY_MASK.contains(wanted) {
+        masks::by_mask();
+    }
+    let growths = GROWTHS.iter().filter(|growth| growth.name.contains(wanted));
+    growths.for_each(growth::Growth::print);
+    Some(())
+}
+
+/// Makes this call so many times, if there is such a call.
+fn count(call: &str, calls: &str) -> Option<()> {
+    let calls = calls.parse().ok()?;
+    growth::by_name(call)?.make(calls);
+    Some(())
 }

@@ -1,28 +1,79 @@
 //! Gather, scatter and group at width 64, on random masks and words.
 
 use crate::bmi2;
-use crate::timing::Contest;
+use crate::contest::Contest;
+use crate::table::{print_heading, print_line};
+use crate::timing::{inputs, Calls, INPUTS};
 use crate::WIDTH;
-use tigbayon::Refusal;
+use conformance::samples::Random;
+use tigbayon::{tb_gather, tb_group, tb_scatter, TbGathered};
+
+/// A call of the library, of width, mask and word.
+pub type OfMask = extern "C" fn(u32, u64, u64) -> TbGathered;
+
+/// A sort of mask.
+type Mask = fn(&mut Random) -> u64;
+
+const MASKS: [(&str, Mask); 6] = [
+    ("0", |_| 0),
+    ("all ones", |_| u64::MAX),
+    ("one bit", |random| 1 << random.below(WIDTH)),
+    ("sparse", |random| {
+        random.word() & random.word() & random.word()
+    }),
+    ("dense", |random| {
+        random.word() | random.word() | random.word()
+    }),
+    ("random", Random::word),
+];
+
+/// The calls on each sort of mask.
+pub fn by_mask() {
+    let calls: [(_, OfMask); 3] = [
+        ("gather", tb_gather),
+        ("scatter", tb_scatter),
+        ("group", tb_group),
+    ];
+    print_heading("by mask", "call", MASKS.map(|(name, _)| name));
+    for (name, call) in calls {
+        let columns = MASKS.map(|(_, mask)| {
+            let inputs = inputs(INPUTS, |random| (mask(random), random.word()));
+            let calls = Calls::new(&inputs, move |&(mask, word)| call(WIDTH, mask, word));
+            (calls, 1)
+        });
+        print_line(name, &columns);
+    }
+}
 
 /// Gather beside its peers.
 pub fn gather(name: &str) {
-    let gather = tigbayon::gather;
-    contest(name, gather, gather_by_loop, compress, bmi2::pext());
+    beside_compress(tb_gather, compress)
+        .within(1.1)
+        .peer("bit loop", on_pair(gather_by_loop))
+        .peer_if_any("BMI2 instruction", bmi2::pext().map(on_pair))
+        .print(name);
 }
 
 /// Scatter beside its peers.
 pub fn scatter(name: &str) {
-    let scatter = tigbayon::scatter;
-    contest(name, scatter, scatter_by_loop, expand, bmi2::pdep());
+    beside_compress(tb_scatter, expand)
+        .within(1.1)
+        .peer("bit loop", on_pair(scatter_by_loop))
+        .peer_if_any("BMI2 instruction", bmi2::pdep().map(on_pair))
+        .print(name);
 }
 
-/// Group beside its peers, each of which gathers twice.
+/// Group beside its peers, each of which gathers twice, and beside gather.
 pub fn group(name: &str) {
-    let by_loop = group_by(gather_by_loop);
-    let by_compress = group_by(compress);
     let by_pext = bmi2::pext().map(group_by);
-    contest(name, tigbayon::group, by_loop, by_compress, by_pext);
+    beside_compress(tb_group, group_by(compress))
+        .beside("the library's gather", |&(mask, word)| {
+            tb_gather(WIDTH, mask, word)
+        })
+        .within(2.2)
+        .peer("bit loop", on_pair(group_by(gather_by_loop)))
+        .peer_if_any("BMI2 instruction", by_pext.map(on_pair))
+        .print(name);
 }
 
 /// A function of mask and word.
@@ -30,21 +81,12 @@ trait Peer: Fn(u64, u64) -> u64 + 'static {}
 
 impl<F: Fn(u64, u64) -> u64 + 'static> Peer for F {}
 
-fn contest(
-    name: &str,
-    library: impl Fn(u32, u64, u64) -> Result<u64, Refusal> + 'static,
-    bit_loop: impl Peer,
-    parallel_suffix: impl Peer,
-    bmi2: Option<impl Peer>,
-) {
+fn beside_compress(library: OfMask, parallel_suffix: impl Peer) -> Contest<(u64, u64), u64> {
     Contest::of(
         |random| (random.word(), random.word()),
-        move |&(mask, word)| library(WIDTH, mask, word).expect("accepted"),
+        move |&(mask, word)| library(WIDTH, mask, word).word,
     )
-    .peer("bit loop", on_pair(bit_loop))
     .peer("Hacker's Delight parallel suffix", on_pair(parallel_suffix))
-    .peer_if_any("BMI2 instruction", bmi2.map(on_pair))
-    .print(name);
 }
 
 fn on_pair(peer: impl Peer) -> impl Fn(&(u64, u64)) -> u64 {

@@ -1,9 +1,11 @@
 //! Both networks and the decoder at width 64.
 
-use crate::timing::Contest;
+use crate::contest::Contest;
 use crate::WIDTH;
+use conformance::controls::{stages, Controls};
+use conformance::low_ones;
 use conformance::samples::Random;
-use tigbayon::{Controls, Decoded, Refusal};
+use tigbayon::{tb_butterfly, tb_decode, tb_inverse, TbCarried, TbControls2};
 
 /// How many stages a network has.
 pub const STAGES: usize = 6;
@@ -18,26 +20,28 @@ const PAIRS: [u64; STAGES] = [
     0x0000_0000_FFFF_FFFF,
 ];
 
+/// One of both networks, as the library offers it.
+pub type Network = extern "C" fn(u32, &Controls, u64) -> TbCarried;
+
 /// The butterfly beside delta swaps.
 pub fn butterfly(name: &str) {
-    network::<false>(name, tigbayon::butterfly);
+    network::<false>(name, tb_butterfly);
 }
 
 /// The inverse beside delta swaps.
 pub fn inverse(name: &str) {
-    network::<true>(name, tigbayon::inverse);
+    network::<true>(name, tb_inverse);
 }
 
 /// The decoder beside the same algorithm.
 pub fn decode(name: &str) {
-    Contest::of(Random::word, |&mask| {
-        tigbayon::decode(WIDTH, mask).expect("accepted")
-    })
-    .peer("the same algorithm", |&mask| {
-        decode_in_rust(turned_by_cases, mask)
-    })
-    .peer("the same, turning without a branch", |&mask| decoded(mask))
-    .print(name);
+    Contest::of(Random::word, |&mask| tb_decode(WIDTH, mask))
+        .peer("the same algorithm", |&mask| {
+            decode_in_rust(turned_by_cases, mask)
+        })
+        .within(2.0)
+        .peer("the same, turning without a branch", |&mask| decoded(mask))
+        .print(name);
 }
 
 /// Random controls, also as masks of the pairs to swap, and a word.
@@ -48,29 +52,36 @@ struct Journey {
 }
 
 /// A network of rising distances (the inverse) or falling ones.
-fn network<const RISING: bool>(
-    name: &str,
-    library: impl Fn(u32, &Controls, u64) -> Result<u64, Refusal> + 'static,
-) {
+fn network<const RISING: bool>(name: &str, library: Network) {
     let journey = |random: &mut Random| {
-        let stages = [(); STAGES].map(|()| random.word() as u32);
+        let controls = random_controls(random, WIDTH);
         Journey {
-            controls: Controls::from(stages),
-            swaps: swaps_of::<RISING>(&stages),
+            controls,
+            swaps: swaps_of::<RISING>(&controls),
             word: random.word(),
         }
     };
     Contest::of(journey, move |journey| {
-        library(WIDTH, &journey.controls, journey.word).expect("accepted")
+        library(WIDTH, &journey.controls, journey.word).word
     })
     .peer("delta swaps, masks spread before", |journey| {
         delta_swaps::<RISING>(&journey.swaps, journey.word)
     })
+    .within(1.1)
     .peer("delta swaps, spreading included", |journey| {
-        let swaps = swaps_of::<RISING>(&journey.controls.stages);
+        let swaps = swaps_of::<RISING>(&journey.controls);
         delta_swaps::<RISING>(&swaps, journey.word)
     })
     .print(name);
+}
+
+/// Controls of a width, any of them alike.
+pub fn random_controls(random: &mut Random, width: u32) -> Controls {
+    let mut controls = Controls::default();
+    for stage in &mut controls[..stages(width)] {
+        *stage = (random.word() & low_ones(width / 2)) as u32;
+    }
+    controls
 }
 
 /// The base-two logarithm of a stage's distance.
@@ -110,14 +121,14 @@ pub fn delta_swaps<const RISING: bool>(swaps: &[u64; STAGES], word: u64) -> u64 
 }
 
 /// Algorithm 1, as its fastest peer here.
-pub fn decoded(mask: u64) -> Decoded {
+pub fn decoded(mask: u64) -> TbControls2 {
     decode_in_rust(turned_by_shift, mask)
 }
 
 /// Algorithm 1, given how to turn zeros.
-fn decode_in_rust(turned_zeros: impl Fn(u32, u32) -> u64, mask: u64) -> Decoded {
-    let mut stages = [0; STAGES];
-    for (i, stage) in stages.iter_mut().enumerate() {
+fn decode_in_rust(turned_zeros: impl Fn(u32, u32) -> u64, mask: u64) -> TbControls2 {
+    let mut butterfly = [0; STAGES];
+    for (i, stage) in butterfly.iter_mut().enumerate() {
         let distance = WIDTH >> (i + 1);
         for j in 0..1 << i {
             let below = (1 << (2 * j * distance + distance)) - 1;
@@ -125,10 +136,13 @@ fn decode_in_rust(turned_zeros: impl Fn(u32, u32) -> u64, mask: u64) -> Decoded 
             *stage |= (turned_zeros(distance, count) as u32) << (j * distance);
         }
     }
-    let butterfly = Controls::from(stages);
-    stages.reverse();
-    let inverse = Controls::from(stages);
-    Decoded { butterfly, inverse }
+    let mut inverse = butterfly;
+    inverse.reverse();
+    TbControls2 {
+        refusal: 0,
+        butterfly,
+        inverse,
+    }
 }
 
 /// So many zeros turned left these steps: ones come in, then zeros again.

@@ -1,13 +1,14 @@
 //! Packing strips of 12-bit colour, each word timed.
 
 use crate::bmi2;
+use crate::contest::Contest;
 use crate::masks::{compress, compress_by, expand, expand_by, moves};
 use crate::networks::{decoded, delta_swaps, swaps_of};
-use crate::timing::Contest;
 use conformance::samples::{strip, Random};
 use conformance::strips::{words_needed, LONGEST};
 use std::cell::RefCell;
 use std::hint::black_box;
+use tigbayon::{tb_pack, tb_unpack};
 
 /// Four colours of 12 bits in places of 16.
 const COLOUR: u64 = 0x0FFF_0FFF_0FFF_0FFF;
@@ -16,16 +17,34 @@ const COLOUR: u64 = 0x0FFF_0FFF_0FFF_0FFF;
 /// into all words of the second. It answers the count of bits.
 pub type OfStrip = fn(u64, &[u64], &mut [u64]) -> u64;
 
+/// Pack or unpack, as the library offers it.
+#[derive(Clone, Copy)]
+pub struct Packing {
+    call: OfStrip,
+    /// The lengths of the two strips, for so many fields.
+    lengths: fn(usize) -> (usize, usize),
+}
+
+/// Pack.
+pub const PACK: Packing = Packing {
+    call: |mask, words, out| tb_pack(mask, words, 0, words.len(), out).bits,
+    lengths: |fields| (fields, words_needed(COLOUR, 0, fields)),
+};
+
+/// Unpack.
+pub const UNPACK: Packing = Packing {
+    call: |mask, packed, out| tb_unpack(mask, packed, 0, out.len(), out).bits,
+    lengths: |fields| (words_needed(COLOUR, 0, fields), fields),
+};
+
 /// Pack beside its peers.
 pub fn pack(name: &str) {
-    let library: OfStrip =
-        |mask, words, out| tigbayon::pack(mask, words, 0..words.len(), out).expect("accepted");
-    let peers: [(_, OfStrip); 3] = [
-        ("the same method", |mask, words, out| {
-            let swaps = swaps_of::<true>(&decoded(mask).inverse.stages);
-            let gather = |word| delta_swaps::<true>(&swaps, word & mask);
-            pack_by(mask, words, out, gather)
-        }),
+    let same_method: OfStrip = |mask, words, out| {
+        let swaps = swaps_of::<true>(&decoded(mask).inverse);
+        let gather = |word| delta_swaps::<true>(&swaps, word & mask);
+        pack_by(mask, words, out, gather)
+    };
+    let others: [(_, OfStrip); 2] = [
         ("Hacker's Delight for each word", |mask, words, out| {
             pack_by(mask, words, out, |word| compress(black_box(mask), word))
         }),
@@ -35,22 +54,17 @@ pub fn pack(name: &str) {
         }),
     ];
     let bmi2 = bmi2::pack().map(|pack| ("BMI2 instruction", pack));
-    let lengths = (LONGEST, words_needed(COLOUR, 0, LONGEST));
-    contest(name, lengths, library, peers.into_iter().chain(bmi2));
+    PACK.contest(name, same_method, others.into_iter().chain(bmi2));
 }
 
 /// Unpack beside its peers.
 pub fn unpack(name: &str) {
-    let library: OfStrip = |mask, packed, out| {
-        let all = 0..out.len();
-        tigbayon::unpack(mask, packed, all, out).expect("accepted")
+    let same_method: OfStrip = |mask, packed, out| {
+        let swaps = swaps_of::<false>(&decoded(mask).butterfly);
+        let scatter = |field| delta_swaps::<false>(&swaps, field) & mask;
+        unpack_by(mask, packed, out, scatter)
     };
-    let peers: [(_, OfStrip); 3] = [
-        ("the same method", |mask, packed, out| {
-            let swaps = swaps_of::<false>(&decoded(mask).butterfly.stages);
-            let scatter = |field| delta_swaps::<false>(&swaps, field) & mask;
-            unpack_by(mask, packed, out, scatter)
-        }),
+    let others: [(_, OfStrip); 2] = [
         ("Hacker's Delight for each word", |mask, packed, out| {
             unpack_by(mask, packed, out, |field| expand(black_box(mask), field))
         }),
@@ -60,12 +74,11 @@ pub fn unpack(name: &str) {
         }),
     ];
     let bmi2 = bmi2::unpack().map(|unpack| ("BMI2 instruction", unpack));
-    let lengths = (words_needed(COLOUR, 0, LONGEST), LONGEST);
-    contest(name, lengths, library, peers.into_iter().chain(bmi2));
+    UNPACK.contest(name, same_method, others.into_iter().chain(bmi2));
 }
 
 /// A mask, a first strip, and a second one that every contender writes to.
-struct Strips {
+pub struct Strips {
     mask: u64,
     first: Vec<u64>,
     second: RefCell<Vec<u64>>,
@@ -83,26 +96,44 @@ impl Strips {
     }
 }
 
-/// Checks each peer's strips here, its count of bits in the contest.
-fn contest(
-    name: &str,
-    (first, second): (usize, usize),
-    library: OfStrip,
-    peers: impl Iterator<Item = (&'static str, OfStrip)>,
-) {
-    let make = |random: &mut Random| Strips {
-        mask: COLOUR,
-        first: strip(random, first),
-        second: RefCell::new(vec![0; second]),
-    };
-    let sample = make(&mut Random::default());
-    let expected = sample.outcome(library);
-    let mut contest = Contest::of_parts(LONGEST, make, move |strips| strips.call(library));
-    for (name, peer) in peers {
-        assert!(sample.outcome(peer) == expected, "{name} packs alike");
-        contest = contest.peer(name, move |strips| strips.call(peer));
+impl Packing {
+    /// The call, on strips of so many fields.
+    pub fn on(&self, strips: &Strips) -> u64 {
+        strips.call(self.call)
     }
-    contest.print(&format!("{name}, per word"));
+
+    /// Strips of so many fields.
+    pub fn strips(&self, random: &mut Random, fields: usize) -> Strips {
+        let (first, second) = (self.lengths)(fields);
+        Strips {
+            mask: COLOUR,
+            first: strip(random, first),
+            second: RefCell::new(vec![0; second]),
+        }
+    }
+
+    /// Checks each peer's strips here, its count of bits in the contest.
+    fn contest(
+        self,
+        name: &str,
+        same_method: OfStrip,
+        others: impl Iterator<Item = (&'static str, OfStrip)>,
+    ) {
+        let sample = self.strips(&mut Random::default(), LONGEST);
+        let expected = sample.outcome(self.call);
+        let checked = |peer| {
+            assert!(sample.outcome(peer) == expected, "peers pack alike");
+            move |strips: &Strips| strips.call(peer)
+        };
+        let strips = |random: &mut Random| self.strips(random, LONGEST);
+        let mut contest = Contest::of_parts(LONGEST, strips, move |strips| self.on(strips))
+            .peer("the same method", checked(same_method))
+            .within(1.2);
+        for (name, peer) in others {
+            contest = contest.peer(name, checked(peer));
+        }
+        contest.print(&format!("{name}, per word"));
+    }
 }
 
 /// Appends field after field, each gathered from its word.
