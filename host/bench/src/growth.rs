@@ -24,11 +24,11 @@ pub struct Growth {
     /// What a time is of: the call, or one part of it, of which the size is the
     /// count.
     each: &'static str,
-    calls: &'static [Sized],
+    calls: &'static [BySize],
 }
 
 /// A call's name, and how it is made on inputs of a size.
-type Sized = (&'static str, fn(usize) -> Calls);
+type BySize = (&'static str, fn(usize) -> Calls);
 
 const CALL: &str = "call";
 
@@ -115,7 +115,7 @@ impl Growth {
     /// The names of its calls, each with how it is made on the largest inputs.
     fn largest(&self) -> impl Iterator<Item = (&'static str, impl Fn() -> Calls)> {
         let size = self.sizes.iter().copied().max().unwrap_or(1);
-        let largest = move |&(name, calls): &Sized| (name, move || calls(size));
+        let largest = move |&(name, calls): &BySize| (name, move || calls(size));
         self.calls.iter().map(largest)
     }
 }

@@ -91,8 +91,9 @@ fn number(random: &mut Random, length: usize) -> usize {
     let near = random.below(4) as usize;
     let beyond = [usize::MAX, usize::MAX - near, usize::MAX / 2 + near];
     let around = [near, length, length + 1 + near, LONGEST + near];
-    // Products with a count of bits wrap around.
-    let wrapping = [any, any << 58, (any << 58) + near];
+    // A product with a count of bits wraps around to nothing, or to a few.
+    let multiple = any << (usize::BITS - 6);
+    let wrapping = [any, multiple, multiple + near];
     random.pick(&[&beyond[..], &around, &wrapping].concat())
 }
 
