@@ -4,14 +4,17 @@ use conformance::samples::Random;
 use std::hint::black_box;
 use std::iter::zip;
 use std::rc::Rc;
-use std::time::Instant;
+use std::time::{Duration, Instant};
 
 /// How many inputs, or parts of inputs, a round goes through: too many for the
 /// processor to learn what comes.
 pub const INPUTS: usize = 4096;
 
-/// How many rounds the median is taken of.
-const ROUNDS: usize = 101;
+/// How many rounds the median is taken of, at least.
+const ROUNDS: u32 = 101;
+
+/// How long the rounds go on, at least.
+const LEAST: Duration = Duration::from_millis(400);
 
 /// So many random inputs, the same in every run.
 pub fn inputs<I>(count: usize, make: impl Fn(&mut Random) -> I) -> Rc<[I]> {
@@ -56,10 +59,13 @@ impl Calls {
 /// turn, round by round.
 pub fn medians<'a>(all: impl Iterator<Item = &'a Calls> + Clone) -> Vec<f64> {
     let mut times = vec![Vec::new(); all.clone().count()];
-    for _ in 0..ROUNDS {
+    let start = Instant::now();
+    let mut rounds = 0;
+    while rounds < ROUNDS || start.elapsed() < LEAST {
         for (calls, times) in zip(all.clone(), &mut times) {
             times.push(calls.nanoseconds());
         }
+        rounds += 1;
     }
     times.into_iter().map(median).collect()
 }
