@@ -8,6 +8,7 @@ use native.Mathlib.Decide.{decLt}
 use native.Mathlib.Nat.{add-zero, zero-add}
 use lib.Bits.{bitAnd, and-le-l}
 use lib.ListN.{length, getD, take, drop, replicate, length-reverse, take-append-drop, List·getD-append}
+use lib.Pow.{pow-pos}
 use lib.Seq.{getD-append-add, length-take-le, getD-take}
 use borrow.Author.Tests.{lt-ltb, le-ltb, ltb-true}
 use Rattle.bits.specs.Refusal.{logOf, accepted, fits}
@@ -18,13 +19,16 @@ use Rattle.gather.proofs.Calls.{within, carried-out}
 use Rattle.network.specs.Stage.{falling, rising, butterflyOf, inverseOf}
 use Rattle.network.specs.Decoder.{column, decodeOf, decodeInverseOf}
 use Rattle.network.specs.declared.Controls.{Controls}
+use Rattle.network.specs.declared.Carried.{Carried}
+use Rattle.network.specs.declared.Prepared.{Prepared}
 use Rattle.network.specs.declared.Decoded.{Decoded}
-use Rattle.network.specs.Calls.{usedBits, controlsFit, carryRefusal, carryAnswer, six, controls, decodeAnswer}
+use Rattle.network.specs.Word.{exchangesOf, preparedOf, travelOf}
+use Rattle.network.specs.Calls.{usedBits, controlsFit, carryRefusal, carryAnswer, prepareAnswer, six, controls, decodeAnswer}
 use Rattle.network.proofs.Travel.{length-falling, length-rising}
 use Rattle.network.proofs.Filling.{map-at, reverse-at}
 use Rattle.network.proofs.Routing.{column-lt, length-decode, undo, undo-inverse, butterfly-lt, inverse-lt, mask-routing-scatter, mask-routing-gather}
-use Rattle.network.proofs.Six.{travel-own}
-use Rattle.network.proofs.Calls.{carry-refusal-by, carry-within, carry-done, decode-refusal-by, each-fit}
+use Rattle.network.proofs.Six.{travel-own, carry-fall, carry-rise}
+use Rattle.network.proofs.Calls.{carry-refusal-by, carry-within, carry-done, prepare-done, decode-refusal-by, each-fit}
 
 getD-zeros : (n i : ℕ) → _≡_ {A = ℕ} (getD (replicate n 0) i 0) 0
 getD-zeros zero i = refl
@@ -177,3 +181,30 @@ calls-undo = calls-back butterflyOf inverseOf butterfly-own inverse-own (λ L cs
 pub calls-undo-inverse : (w : ℕ) (k : Controls) (x : ℕ) → length (k .stages) ≡ 6 → carryRefusal w (k .stages) x ≡ 0
     → carryAnswer butterflyOf w (controls (reverse (take (logOf w) (k .stages)))) (carryAnswer inverseOf w k x .word) ≡ record { refusal = 0; word = x }
 calls-undo-inverse = calls-back inverseOf butterflyOf inverse-own butterfly-own (λ L cs x h. inverse-lt L cs h) undo-inverse
+
+-- Wherever a call of a network is carried out, the network made ready carries the word alike.
+
+module _ (w : ℕ) (k : Controls) (hk : length (k .stages) ≡ 6) (x : ℕ) (h : carryRefusal w (k .stages) x ≡ 0) where
+  module _ (b : Bool) (f : ℕ → List ℕ → ℕ → ℕ) (g : List ℕ → ℕ)
+      (same : (L : ℕ) → L ≤ 6 → x < 2 ^ 2 ^ L → g (preparedOf b L (k .stages)) ≡ f L (k .stages) x) where
+    carries : (prepareAnswer b w k .refusal ≡ 0) × (g (prepareAnswer b w k .swaps) ≡ carryAnswer f w k x .word)
+    carries =
+        let i = carry-within w (k .stages) x h in
+        let l = log-width w (i .0) in
+        let r = carry-refusal-by w (k .stages) 0 (i .0) (lt-ltb 0 (2 ^ w) (pow-pos w)) (i .2) in
+        let p = prepare-done b w k (sym r) refl refl refl in (
+          ap (λ (a : Prepared). a .refusal) (sym p),
+          ap (λ (a : Prepared). g (a .swaps)) (sym p)
+              ∙ same (logOf w) (omega (arith, l .2)) (rw (l .0) at (i .1))
+              ∙ ap (λ (a : Carried). a .word) (carry-done f w k x (sym h) refl refl refl),
+        )
+
+  pub prepared-falls : (prepareAnswer false w k .refusal ≡ 0)
+      × (exchangesOf (falling 6) (prepareAnswer false w k .swaps) x ≡ carryAnswer butterflyOf w k x .word)
+  unfolding butterflyOf travelOf
+  prepared-falls = carries false butterflyOf (λ ws. exchangesOf (falling 6) ws x) (λ L l d. carry-fall L l (k .stages) hk d)
+
+  pub prepared-rises : (prepareAnswer true w k .refusal ≡ 0)
+      × (exchangesOf (rising 6) (reverse (prepareAnswer true w k .swaps)) x ≡ carryAnswer inverseOf w k x .word)
+  unfolding inverseOf travelOf
+  prepared-rises = carries true inverseOf (λ ws. exchangesOf (rising 6) (reverse ws) x) (λ L l d. carry-rise L l (k .stages) hk d)

@@ -15,9 +15,11 @@ use Rattle.bits.specs.Refusal.{logOf, accepted, fits, lowest, IsLowest}
 use Rattle.bits.proofs.Refusals.{log-width, lowest-law}
 use Rattle.network.specs.declared.Controls.{Controls}
 use Rattle.network.specs.declared.Carried.{Carried}
+use Rattle.network.specs.declared.Prepared.{Prepared}
 use Rattle.network.specs.declared.Decoded.{Decoded}
+use Rattle.network.specs.Word.{preparedOf}
 use Rattle.network.specs.Decoder.{decodeOf, decodeInverseOf}
-use Rattle.network.specs.Calls.{usedBits, controlsFit, carryConditions, carryRefusal, carryAnswer, six, controls, decodeConditions, decodeRefusal, decodeAnswer}
+use Rattle.network.specs.Calls.{usedBits, controlsFit, carryConditions, carryRefusal, carryAnswer, prepareAnswer, six, controls, decodeConditions, decodeRefusal, decodeAnswer}
 
 -- the control bits in use
 
@@ -99,6 +101,18 @@ module _ (f : ℕ → List ℕ → ℕ → ℕ) (w : ℕ) (k : Controls) (x : �
       → _≡_ {A = Carried} (record { refusal = 0; word = y }) (carryAnswer f w k x)
   unfolding carryAnswer
   carry-done z q y = rw (← e, eq-eqb n 0 z, y, q)
+
+-- a call that makes a network ready
+
+module _ (b : Bool) (w : ℕ) (k : Controls) {n : ℕ} (e : n ≡ carryRefusal w (k .stages) 0) where
+  pub prepare-refused : (n ≡ 0 → ⊥) → _≡_ {A = Prepared} (record { refusal = n; swaps = replicate 6 0 }) (prepareAnswer b w k)
+  unfolding prepareAnswer
+  prepare-refused z = rw (← e, ne-eqb n 0 z)
+
+  pub prepare-done : n ≡ 0 → {l : ℕ} {ws : List ℕ} → l ≡ logOf w → ws ≡ preparedOf b l (k .stages)
+      → _≡_ {A = Prepared} (record { refusal = 0; swaps = ws }) (prepareAnswer b w k)
+  unfolding prepareAnswer
+  prepare-done z q y = rw (← e, eq-eqb n 0 z, y, q)
 
 -- At width 64 every control bit is used, and every call is carried out.
 

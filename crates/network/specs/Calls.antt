@@ -7,7 +7,9 @@ use lib.ListN.{length, replicate}
 use Rattle.bits.specs.Refusal.{logOf, accepted, fits, lowest}
 use Rattle.network.specs.declared.Controls.{Controls}
 use Rattle.network.specs.declared.Carried.{Carried}
+use Rattle.network.specs.declared.Prepared.{Prepared}
 use Rattle.network.specs.declared.Decoded.{Decoded}
+use Rattle.network.specs.Word.{preparedOf}
 use Rattle.network.specs.Decoder.{decodeOf, decodeInverseOf}
 
 -- "a column uses w/2 bits"; "Unused columns and bits are zero": how many bits column i (from 0) uses at width 2 ^ L
@@ -31,6 +33,13 @@ unfoldable pub carryAnswer : (ℕ → List ℕ → ℕ → ℕ) → ℕ → Cont
 carryAnswer f w k x =
     cond (eqb (carryRefusal w (k .stages) x) 0) (record { refusal = 0; word = f (logOf w) (k .stages) x })
     (record { refusal = carryRefusal w (k .stages) x; word = 0 })
+
+-- the whole answer of a call that makes the inverse (true) or the butterfly ready. Refused is what a call on the word zero is, which is of every width:
+-- 1, the width; 3, the controls
+unfoldable pub prepareAnswer : Bool → ℕ → Controls → Prepared
+prepareAnswer b w k =
+    cond (eqb (carryRefusal w (k .stages) 0) 0) (record { refusal = 0; swaps = preparedOf b (logOf w) (k .stages) })
+    (record { refusal = carryRefusal w (k .stages) 0; swaps = replicate 6 0 })
 
 -- 1, the width; 2, a one of the mask at bit w or above
 abbrev pub decodeConditions : ℕ → ℕ → List (ℕ × Bool)

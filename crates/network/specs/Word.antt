@@ -1,5 +1,5 @@
 -- The word forms of a stage, which the code computes: a column spread to the lower places of its pairs, and pairs exchanged all at once.
--- Internal: no call's answer cites them. Assumes nothing.
+-- Of the calls, only a prepared network cites them; `prepared-falls` and `prepared-rises` say that it is the network. Assumes nothing.
 use Prim.Native.Nat.{ℕ, _+_, _-_, _*_, _/_, _%_, _^_}
 use mathlib.Core.Bool.{Bool, cond}
 use mathlib.Core.List.{List, [], _∷_, _++_, reverse}
@@ -48,6 +48,10 @@ allPass = 2 ^ 32 - 1
 -- the L stages in use of the inverse (true) or of the butterfly at their places in the table of six distances, widest first; the wider ones pass every bit
 abbrev pub byIndex : Bool → ℕ → List ℕ → List ℕ
 byIndex b L cs = replicate (6 - L) allPass ++ cond b (reverse (take L cs)) (take L cs)
+
+-- the swaps of the inverse (true) or of the butterfly, from the widest of six stages
+abbrev pub preparedOf : Bool → ℕ → List ℕ → List ℕ
+preparedOf b L cs = swapsAt (falling 6) (byIndex b L cs)
 
 -- the distances of the inverse (true) or of the butterfly
 abbrev pub distances : Bool → ℕ → List ℕ

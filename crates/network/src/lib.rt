@@ -1,14 +1,14 @@
 // Stages, both networks and the decoder (paper 01, 'Columns').
 ghost use mathlib.Core.Path.{_≡_};
 ghost use Prim.Native.Nat.{_+_, _-_, _*_, _^_, _≤_, _<_};
-ghost use mathlib.Core.Bool.{cond};
+ghost use mathlib.Core.Bool.{cond, true, false};
 ghost use mathlib.Core.List.{reverse};
 ghost use lib.ListN.{take};
 ghost use Rattle.bits.specs.Bit.{ofBits};
 ghost use Rattle.network.specs.Stage.{falling, rising, butterflyOf, inverseOf};
 ghost use Rattle.network.specs.Word.{spreadOf, swapsOf, swapsAt, exchangeOf, exchangesOf, byIndex, travelOf};
 ghost use Rattle.network.specs.Decoder.{turned, controlAt, decodeOf};
-ghost use Rattle.network.specs.Calls.{usedBits, controlsFit, carryRefusal, carryAnswer, six, decodeRefusal, decodeAnswer};
+ghost use Rattle.network.specs.Calls.{usedBits, controlsFit, carryRefusal, carryAnswer, prepareAnswer, six, decodeRefusal, decodeAnswer};
 
 // The control bits of one network: six stages in the direction of travel (paper 01: settings). One passes, zero swaps.
 #[repr(C)]
@@ -21,6 +21,14 @@ pub struct Controls {
 pub struct Carried {
     pub refusal: u8,
     pub word: u64,
+}
+
+// A network made ready for many words: 0 and for each stage, from the widest, ones at the lower places of the pairs that swap; or the number
+// of the refusal and zeros.
+#[repr(C)]
+pub struct Prepared {
+    pub refusal: u8,
+    pub swaps: [u64; 6],
 }
 
 // What the decoder answers: 0 and the controls of both networks, or the number of the refusal and zeros.
@@ -114,7 +122,7 @@ pub fn prepare(columns: [u32; 6]) -> [u64; 6]
     words
 }
 
-// internal: through six stages, the widest first
+// The word through six stages, the widest first: the pairs marked in each word are exchanged.
 pub fn fall(words: [u64; 6], word: u64) -> u64
     ensures { λ r. ⌜ r ≡ exchangesOf (falling 6) words word ⌝ }
 {
@@ -127,7 +135,7 @@ pub fn fall(words: [u64; 6], word: u64) -> u64
     carried
 }
 
-// internal: through six stages, the narrowest first
+// The word through the same six stages, the narrowest first.
 pub fn rise(words: [u64; 6], word: u64) -> u64
     ensures { λ r. ⌜ r ≡ exchangesOf (rising 6) (reverse words) word ⌝ }
 {
@@ -253,6 +261,36 @@ pub fn inverse(width: u32, controls: Controls, word: u64) -> Carried
         };
     }
     through(true, width, controls, word)
+}
+
+// The controls of the inverse (rising) or of the butterfly made ready.
+fn ready(rising: bool, width: u32, controls: Controls) -> Prepared
+    ensures { λ r. ⌜ r ≡ prepareAnswer rising width controls ⌝ }
+{
+    let stages = controls.stages;
+    let refused = carry_refusal(width, stages, 0);
+    if refused != 0 {
+        return Prepared {
+            refusal: refused,
+            swaps: [0u64; 6],
+        };
+    }
+    let swaps = prepare(by_index(rising, bits::log_of(width) as usize, stages));
+    Prepared { refusal: 0, swaps }
+}
+
+// The butterfly made ready: `fall` then sends any number of words through it.
+pub fn prepare_butterfly(width: u32, controls: Controls) -> Prepared
+    ensures { λ r. ⌜ r ≡ prepareAnswer false width controls ⌝ }
+{
+    ready(false, width, controls)
+}
+
+// The inverse made ready: `rise` then sends any number of words through it.
+pub fn prepare_inverse(width: u32, controls: Controls) -> Prepared
+    ensures { λ r. ⌜ r ≡ prepareAnswer true width controls ⌝ }
+{
+    ready(true, width, controls)
 }
 
 // internal: a distance of 1 to 32. As many zeros turned left `count` steps: as many ones come in at the right and go out at the left.

@@ -1,0 +1,49 @@
+-- `network::ready` meets its contract. Assumes nothing.
+use mathlib.Core.Path.{_∙_, ap}
+use native.Mathlib.Omega.{arith}
+use Rattle.bits.proofs.Refusals.{log-le}
+use Rattle.network.specs.Stage.{falling}
+use Rattle.network.specs.Word.{swapsAt}
+use Rattle.network.proofs.Calls.{prepare-refused, prepare-done}
+use borrow.Author.Needs.{needs}
+use Rattle.network.proofs.ready.Statement.{statement}
+use Rattle.network.proofs.ready.Tie as tie
+
+carry-refusal-requires : tie.Need-carry-refusal-requires
+carry-refusal-requires c κs = search needs
+
+returns : tie.Need-returns
+returns c =
+    let a = c .before .before .before .args in
+    prepare-refused (a .rising) (a .width) (a .controls) (c .before .carry-refusal .ensures) (c .if1 .taken)
+
+log-of-requires : tie.Need-log-of-requires
+log-of-requires c κs = search needs
+
+cast-by-index : tie.Need-cast-by-index
+cast-by-index c = search needs
+
+by-index-requires : tie.Need-by-index-requires
+by-index-requires c κs = omega (arith, c .log-of .ensures, log-le (c .before .before .before .before .args .width))
+
+prepare-requires : tie.Need-prepare-requires
+prepare-requires c κs = search needs
+
+returns-2 : tie.Need-returns-2
+returns-2 c =
+    let b = c .before .before .before in
+    let a = b .before .before .before .args in
+    prepare-done (a .rising) (a .width) (a .controls) (b .before .carry-refusal .ensures) (b .if1 .left) (c .before .before .log-of .ensures)
+    (c .prepare .ensures ∙ ap (swapsAt (falling 6)) (c .before .by-index .ensures))
+
+pub ready-spec : {M : Type 1} → statement M
+ready-spec =
+    tie.close
+    (tie.spec
+    carry-refusal-requires
+    returns
+    log-of-requires
+    cast-by-index
+    by-index-requires
+    prepare-requires
+    returns-2)
