@@ -1,0 +1,34 @@
+//! The commands.
+
+mod drawn;
+mod masks;
+mod networks;
+mod packing;
+mod routing;
+mod unit;
+
+use crate::command::Command;
+use crate::failure::Failure;
+
+/// All of them, in the order of the help.
+pub const COMMANDS: [&Command; 10] = [
+    &masks::GATHER,
+    &masks::SCATTER,
+    &masks::GROUP,
+    &networks::DECODE,
+    &networks::BUTTERFLY,
+    &networks::INVERSE,
+    &routing::ROUTE,
+    &packing::PACK,
+    &packing::UNPACK,
+    &unit::RUN,
+];
+
+/// The command of this name.
+pub fn find(name: &str) -> Result<&'static Command, Failure> {
+    let command = COMMANDS.into_iter().find(|command| command.name == name);
+    command.ok_or_else(|| {
+        let names = COMMANDS.map(|command| command.name).join(", ");
+        Failure::argument(format!("COMMAND is {name:?}, expected one of {names}"))
+    })
+}

@@ -1,0 +1,90 @@
+//! Gather, scatter and group.
+
+use crate::answer::Answer;
+use crate::args::Given;
+use crate::command::{Argument, Command, Example, MASK, WIDTH};
+use crate::failure::Failure;
+use crate::number::{hex, Base};
+use tigbayon::Refusal;
+
+/// The word that a command works on.
+pub const WORD: Argument = Argument {
+    name: "WORD",
+    about: "hexadecimal",
+};
+
+const ARGUMENTS: &[Argument] = &[WIDTH, MASK, WORD];
+
+const REFUSALS: &[Refusal] = &[Refusal::Width, Refusal::Above];
+
+/// Gather.
+pub const GATHER: Command = Command {
+    name: "gather",
+    about: "brings the marked bits to the right in order, zeros above",
+    arguments: ARGUMENTS,
+    options: &[],
+    notes: "",
+    refusals: REFUSALS,
+    examples: &[
+        Example {
+            call: "gather 8 0xAD 0xB6",
+            prints: "0x1A",
+        },
+        Example {
+            call: "gather 64 0FFF0FFF0FFF0FFF 0123045607890ABC",
+            prints: "0x123456789ABC",
+        },
+        Example {
+            call: "gather 8 0xAD 0x100",
+            prints: "refused 2: word or mask has a one at bit w or above",
+        },
+    ],
+    perform: |given| by_mask(given, tigbayon::gather),
+};
+
+/// Scatter.
+pub const SCATTER: Command = Command {
+    name: "scatter",
+    about: "takes the bits from the right to the marked places, zeros between",
+    arguments: ARGUMENTS,
+    options: &[],
+    notes: "",
+    refusals: REFUSALS,
+    examples: &[Example {
+        call: "scatter 8 0xAD 0x1A",
+        prints: "0xA4",
+    }],
+    perform: |given| by_mask(given, tigbayon::scatter),
+};
+
+/// Group.
+pub const GROUP: Command = Command {
+    name: "group",
+    about: "brings the marked bits to the right, the others to the left, in order",
+    arguments: ARGUMENTS,
+    options: &[],
+    notes: "",
+    refusals: REFUSALS,
+    examples: &[
+        Example {
+            call: "group 8 0xAD 0xB6",
+            prints: "0x7A",
+        },
+        Example {
+            call: "group 64 FFFFFFFFFFFFFFFF 5",
+            prints: "0x5",
+        },
+    ],
+    perform: |given| by_mask(given, tigbayon::group),
+};
+
+fn by_mask(
+    given: &Given,
+    call: fn(u32, u64, u64) -> Result<u64, Refusal>,
+) -> Result<Answer, Failure> {
+    let width = given.argument("WIDTH").number(Base::Decimal)?;
+    let mask = given.argument("MASK").number(Base::Hexadecimal)?;
+    let word = given.argument("WORD").number(Base::Hexadecimal)?;
+    let result = call(width, mask, word)?;
+    Ok(Answer::of(hex(result) + "\n"))
+}

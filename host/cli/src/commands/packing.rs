@@ -1,0 +1,147 @@
+//! Pack and unpack.
+
+use crate::answer::Answer;
+use crate::args::Given;
+use crate::command::{Argument, Choice, Command, Example, MASK};
+use crate::failure::Failure;
+use crate::number::{hex_list, Base};
+use std::ops::Range;
+use tigbayon::Refusal;
+
+/// The options that lend the second strip.
+const OUT: [&str; 2] = ["--out", "--length"];
+
+/// A strip longer than 2,048 words is refused, whatever its length and words.
+const TOO_LONG: usize = 2049;
+
+const CHOICES: [Choice; 2] = [
+    Choice::valued(OUT[0], "WORDS", "the strip to write into, hexadecimal"),
+    Choice::valued(
+        OUT[1],
+        "N",
+        "write into N words of zero; else as many as needed",
+    ),
+];
+
+const NOTES: &str = "\
+Prints the count of bits, then all words of the strip that is written into.
+";
+
+const REFUSALS: &[Refusal] = &[Refusal::Range, Refusal::Short];
+
+const A: Argument = Argument {
+    name: "A",
+    about: "decimal; the first word of the range",
+};
+
+const B: Argument = Argument {
+    name: "B",
+    about: "decimal; the word after the last one of the range",
+};
+
+/// Pack.
+pub const PACK: Command = Command {
+    name: "pack",
+    about: "lays the gathered bits of words A to B-1 end to end",
+    arguments: &[
+        MASK,
+        Argument {
+            name: "WORDS",
+            about: "hexadecimal; the words to gather from",
+        },
+        A,
+        B,
+    ],
+    options: &[&CHOICES],
+    notes: NOTES,
+    refusals: REFUSALS,
+    examples: &[
+        Example {
+            call: "pack 0xFFF 1,2,3,4,5,0x9A6 0 6",
+            prints: "72 bits\n0x6005004003002001,0x9A",
+        },
+        Example {
+            call: "pack 0xFFF 1,2,3,4,5,0x9A6 0 2 --out 7,7",
+            prints: "24 bits\n0x2001,0x7",
+        },
+        Example {
+            call: "pack 0xFFF 1,2,3,4,5,0x9A6 0 6 --length 1",
+            prints: "refused 10: the other strip shorter than its bits need",
+        },
+    ],
+    perform: |given| {
+        let enough = |mask: u64, words: &[u64], range: Range<usize>| {
+            let count = range.end.min(words.len()).saturating_sub(range.start);
+            let bits = mask.count_ones() as usize * count;
+            bits.div_ceil(u64::BITS as usize)
+        };
+        between_strips(given, "WORDS", tigbayon::pack, enough)
+    },
+};
+
+/// Unpack.
+pub const UNPACK: Command = Command {
+    name: "unpack",
+    about: "scatters bits so laid into words A to B-1",
+    arguments: &[
+        MASK,
+        Argument {
+            name: "PACKED",
+            about: "hexadecimal; the words that hold the bits",
+        },
+        A,
+        B,
+    ],
+    options: &[&CHOICES],
+    notes: NOTES,
+    refusals: REFUSALS,
+    examples: &[
+        Example {
+            call: "unpack 0xFFF 0x6005004003002001,0x9A 0 6",
+            prints: "72 bits\n0x1,0x2,0x3,0x4,0x5,0x9A6",
+        },
+        Example {
+            call: "unpack 0xFFF 0x6005004003002001,0x9A 1 3 --out 7,7,7,7",
+            prints: "24 bits\n0x7,0x1,0x2,0x7",
+        },
+    ],
+    perform: |given| {
+        let enough = |_: u64, _: &[u64], range: Range<usize>| range.end;
+        between_strips(given, "PACKED", tigbayon::unpack, enough)
+    },
+};
+
+/// A call that reads one strip and writes into another.
+type Call = fn(u64, &[u64], Range<usize>, &mut [u64]) -> Result<u64, Refusal>;
+
+/// Makes the call on the strip of this name and the one that is lent.
+fn between_strips(
+    given: &Given,
+    name: &str,
+    call: Call,
+    enough: impl Fn(u64, &[u64], Range<usize>) -> usize,
+) -> Result<Answer, Failure> {
+    let mask = given.argument("MASK").number(Base::Hexadecimal)?;
+    let words: Vec<u64> = given.argument(name).numbers(Base::Hexadecimal)?;
+    let a = given.argument("A").number(Base::Decimal)?;
+    let b = given.argument("B").number(Base::Decimal)?;
+    let mut out = out(given, || enough(mask, &words, a..b))?;
+    let bits = call(mask, &words, a..b, &mut out)?;
+    let words = hex_list(&out);
+    let lines = [format!("{bits} bits\n"), words + "\n"];
+    let shown = if out.is_empty() { 1 } else { 2 };
+    Ok(Answer::of(lines[..shown].concat()))
+}
+
+/// The strip to write into.
+fn out(given: &Given, enough: impl FnOnce() -> usize) -> Result<Vec<u64>, Failure> {
+    given.at_most_one(OUT)?;
+    if let Some(words) = given.option(OUT[0]) {
+        return words.numbers(Base::Hexadecimal);
+    }
+    let length = match given.option(OUT[1]) {
+        Some(length) => length.number(Base::Decimal)?,
+        None => enough(),
+    };
+    Ok(vec![0; length.min(TOO_LONG)])
+}

@@ -1,0 +1,130 @@
+//! Why a command line gets no answer.
+
+use std::fmt;
+use std::io;
+use std::process::ExitCode;
+use tigbayon::Refusal;
+
+/// Why a command line gets no answer.
+#[derive(Debug)]
+pub enum Failure {
+    /// Its arguments cannot be read.
+    Argument {
+        /// Which of them, and what was expected.
+        problem: String,
+        /// The command whose help tells more; none if it is not known.
+        command: Option<&'static str>,
+    },
+    /// The library refused the call.
+    Refused(Refusal),
+    /// What is named here could not be written.
+    Unwritten(String, io::Error),
+}
+
+/// The exit statuses and what they mean; the first is success.
+pub const STATUSES: [(u8, &str); 4] = [
+    (0, "the call was carried out"),
+    (
+        1,
+        "an argument is missing, unknown, or not what it should be",
+    ),
+    (2, "the library refused the call"),
+    (3, "the answer could not be written"),
+];
+
+/// The condition of each refusal, by rising number, in the words of
+/// include/tigbayon.h.
+pub const CONDITIONS: [&str; Refusal::ALL.len()] = [
+    "width not 8, 16, 32, 64",
+    "word or mask has a one at bit w or above",
+    "a one in an unused control bit or stage",
+    "permutation not w long; run list not a multiple of 4 bytes, or above 4,096 bytes",
+    "permutation entry w or above, or repeated",
+    "permutation not realised by the one network named",
+    "kind not 1 to 10, or in kind 5 r1 not 1 to 4",
+    "a register number in use above 15",
+    "a above b, b above the length of the strip that a and b cut, or either strip above 2,048 words",
+    "the other strip shorter than its bits need",
+];
+
+/// The condition of a refusal.
+pub fn condition(refusal: Refusal) -> &'static str {
+    CONDITIONS[usize::from(refusal.number()) - 1]
+}
+
+impl Failure {
+    /// A problem with an argument of a command that is not known yet.
+    pub fn argument(problem: String) -> Self {
+        let command = None;
+        Failure::Argument { problem, command }
+    }
+
+    /// The same failure, of this command.
+    pub fn of(self, name: &'static str) -> Self {
+        match self {
+            Failure::Argument { problem, .. } => {
+                let command = Some(name);
+                Failure::Argument { problem, command }
+            }
+            other => other,
+        }
+    }
+
+    /// The exit status, one of [`STATUSES`].
+    pub fn status(&self) -> ExitCode {
+        let (status, _) = match self {
+            Failure::Argument { .. } => STATUSES[1],
+            Failure::Refused(_) => STATUSES[2],
+            Failure::Unwritten(..) => STATUSES[3],
+        };
+        status.into()
+    }
+}
+
+impl From<Refusal> for Failure {
+    fn from(refusal: Refusal) -> Self {
+        Failure::Refused(refusal)
+    }
+}
+
+impl fmt::Display for Failure {
+    fn fmt(&self, f: &mut fmt::Formatter<'_>) -> fmt::Result {
+        match self {
+            Failure::Argument { problem, command } => {
+                let of = command.map(|name| format!(" {name}")).unwrap_or_default();
+                write!(f, "tigbayon{of}: {problem}\nsee tigbayon{of} --help")
+            }
+            Failure::Refused(refusal) => {
+                let number = refusal.number();
+                write!(f, "refused {number}: {}", condition(*refusal))
+            }
+            Failure::Unwritten(what, error) => write!(f, "cannot write {what}: {error}"),
+        }
+    }
+}
+
+#[cfg(test)]
+mod tests {
+    use super::*;
+
+    const HEADER: &str = include_str!("../../../include/tigbayon.h");
+
+    #[test]
+    fn conditions_are_those_of_the_header() {
+        let words: Vec<&str> = HEADER.split_whitespace().collect();
+        let header = words.join(" ");
+        for (number, condition) in (1..).zip(CONDITIONS) {
+            let comment = format!("/* {condition} */");
+            let place = header.find(&comment).expect(condition);
+            let before = header[..place].trim_end().trim_end_matches(',');
+            assert!(before.ends_with(&format!(" = {number}")), "{condition}");
+        }
+    }
+
+    #[test]
+    fn statuses_are_by_rising_number() {
+        for (number, (status, _)) in (0..).zip(STATUSES) {
+            assert_eq!(status, number);
+        }
+    }
+}
