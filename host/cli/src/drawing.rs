@@ -1,6 +1,13 @@
 //! Drawings of networks on their controls.
 
+mod canvas;
+mod curves;
+mod layout;
+mod legend;
+mod palette;
+pub mod svg;
 pub mod text;
+mod words;
 
 use crate::network::{end, path, Network, Stage};
 

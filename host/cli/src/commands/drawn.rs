@@ -3,13 +3,18 @@
 use crate::answer::Answer;
 use crate::args::{unexpected, Given};
 use crate::command::Choice;
-use crate::drawing::{text, Drawing};
+use crate::drawing::{svg, text, Drawing};
 use crate::failure::Failure;
 use crate::number::Base;
 
 /// The options of such a command.
-pub const CHOICES: [Choice; 2] = [
+pub const CHOICES: [Choice; 3] = [
     Choice::flag("--text", "draw the networks in characters"),
+    Choice::valued(
+        "--svg",
+        "FILE",
+        "draw them into the file, or with - to the output",
+    ),
     Choice::valued(
         "--bit",
         "N",
@@ -23,18 +28,30 @@ In drawings a word enters at the left with bit 0 at the bottom, and the path of 
 bit stands out.
 ";
 
+/// The file name that means the standard output.
+const OUTPUT: &str = "-";
+
 /// The answer: the controls, or the drawings that are asked for.
 pub fn answer(given: &Given, drawing: Drawing) -> Result<Answer, Failure> {
     let drawing = Drawing {
         bit: followed(given, &drawing)?,
         ..drawing
     };
+    let svg = given.option("--svg").map(|name| name.text());
+    if svg == Some(OUTPUT) {
+        if given.has("--text") {
+            let problem = "--svg - and --text both write to the output";
+            return Err(Failure::argument(problem.to_string()));
+        }
+        return Ok(Answer::of(svg::draw(&drawing)));
+    }
     let output = if given.has("--text") {
         text::draw(&drawing)
     } else {
         controls(&drawing)
     };
-    Ok(Answer::of(output))
+    let file = svg.map(|name| (name.to_string(), svg::draw(&drawing)));
+    Ok(Answer { output, file })
 }
 
 /// The bit to follow.
@@ -42,8 +59,8 @@ fn followed(given: &Given, drawing: &Drawing) -> Result<u32, Failure> {
     let Some(text) = given.option("--bit") else {
         return Ok(drawing.bit);
     };
-    if !given.has("--text") {
-        let problem = "--bit needs a drawing, by --text";
+    if !given.has("--svg") && !given.has("--text") {
+        let problem = "--bit needs a drawing, by --svg or --text";
         return Err(Failure::argument(problem.to_string()));
     }
     let bit = text.number(Base::Decimal)?;

@@ -59,6 +59,10 @@ controls   0xD  0xF  0xF    0xB  0xF  0xD
 ○ passes  ● swaps with the ● it is joined to  ━ bit 1, to place 4",
         },
         Example {
+            call: "route 8 0,4,2,3,1,5,6,7 --svg route.svg",
+            prints: "butterfly 0xD,0xF,0xF\ninverse   0xB,0xF,0xD",
+        },
+        Example {
             call: "route 8 7,6,5,4,3,2,1,0",
             prints: "butterfly 0xF,0xF,0xF\ninverse   0x0,0x0,0x0",
         },

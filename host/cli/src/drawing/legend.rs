@@ -1,0 +1,90 @@
+//! The legend of SVG drawings.
+
+use super::canvas::{fill, stroke, Anchor, Canvas, ROUND};
+use super::palette::{INK, PASS, PATH, QUIET, SWAP};
+use super::{curves, Drawing};
+use crate::network::Switch;
+use crate::number::hex;
+
+/// How wide the sign before a text is.
+const SIGN: i32 = 30;
+/// About how wide a letter is.
+const LETTER: i32 = 7;
+/// Between an entry and the next.
+const GAP: i32 = 28;
+
+/// A sign and what it means.
+pub struct Entry {
+    x: i32,
+    sign: Sign,
+    text: String,
+}
+
+/// What is explained.
+#[derive(Clone, Copy)]
+enum Sign {
+    Switch { passes: bool },
+    Path,
+    Mark,
+}
+
+/// The entries for what a drawing shows, from this place on.
+pub fn of(drawing: &Drawing, start: i32) -> Vec<Entry> {
+    let switch = |passes, text: &str| (Sign::Switch { passes }, text.to_string());
+    let mut signs = vec![
+        switch(true, "pass, control bit 1"),
+        switch(false, "swap, control bit 0"),
+        (Sign::Path, drawing.journey()),
+    ];
+    if let Some(mask) = drawing.mask {
+        signs.push((Sign::Mark, format!("marked by {}", hex(mask))));
+    }
+    let mut x = start;
+    let place = |(sign, text)| {
+        let entry = Entry { x, sign, text };
+        x = entry.end() + GAP;
+        entry
+    };
+    signs.into_iter().map(place).collect()
+}
+
+impl Entry {
+    /// Where it ends, about.
+    pub fn end(&self) -> i32 {
+        self.x + SIGN + 10 + LETTER * self.text.len() as i32
+    }
+
+    /// Draws it at this height.
+    pub fn draw(&self, canvas: &mut Canvas, y: i32) {
+        match self.sign {
+            Sign::Switch { passes } => self.switch(canvas, y, passes),
+            Sign::Path => {
+                let data = curves::line(&(self.x..self.x + SIGN), y, y);
+                canvas.path(&format!("{ROUND} {}", stroke(PATH, 4.0)), &data);
+            }
+            Sign::Mark => {
+                canvas.pill((self.x + SIGN / 2, y), (SIGN, 14), &fill(INK));
+            }
+        }
+        let place = (self.x + SIGN + 10, y + 4);
+        canvas.text(place, Anchor::Start, &fill(QUIET), &self.text);
+    }
+
+    fn switch(&self, canvas: &mut Canvas, y: i32, passes: bool) {
+        let (number, low, high) = (0, 0, 1);
+        let switch = Switch {
+            number,
+            low,
+            high,
+            passes,
+        };
+        let x = self.x + 2..self.x + SIGN - 2;
+        let height = |place| y + 6 - 12 * place as i32;
+        let colour = if passes { PASS } else { SWAP };
+        canvas.group(ROUND, |canvas| {
+            let lines = curves::switch(switch, &x, height);
+            canvas.path(&stroke(colour, 2.0), &lines);
+            canvas.path(&stroke(colour, 5.0), &curves::ends(switch, &x, height));
+        });
+    }
+}
