@@ -1,0 +1,134 @@
+//! Arguments that cannot be read are named, with what was expected.
+
+mod support;
+
+use support::{command, outcome, run, Outcome};
+
+/// Asserts that the arguments are not read, and that the message holds these
+/// words and the hint.
+fn assert_unread(args: &[&str], words: &str) {
+    let Outcome {
+        status,
+        output,
+        error,
+    } = run(args);
+    assert_eq!((status, output.as_str()), (1, ""), "{args:?}");
+    assert!(error.contains(words), "{args:?}: {error}");
+    let hint = error.lines().last().unwrap();
+    assert!(hint.starts_with("see tigbayon"), "{args:?}: {error}");
+    assert!(hint.ends_with("--help"), "{args:?}: {error}");
+}
+
+#[test]
+fn commands() {
+    assert_unread(&[], "COMMAND is missing");
+    assert_unread(&["turn"], "COMMAND is \"turn\", expected one of gather, ");
+    assert_unread(&["help", "turn"], "COMMAND is \"turn\"");
+    assert_unread(&[""], "COMMAND is \"\"");
+}
+
+#[test]
+fn numbers() {
+    let hexadecimal = "expected a hexadecimal number up to 0xFFFFFFFFFFFFFFFF";
+    for text in ["", "0x", "G", "-1", "+1", "1_0", "10000000000000000"] {
+        let mask = format!("MASK is {text:?}, {hexadecimal}");
+        assert_unread(&["gather", "8", text, "1"], &mask);
+        let word = format!("WORD is {text:?}, {hexadecimal}");
+        assert_unread(&["butterfly", "8", "0", text], &word);
+    }
+    let decimal = "expected a decimal number from 0 to 4294967295";
+    for text in ["", "0x8", "eight", "-8", "4294967296"] {
+        let width = format!("WIDTH is {text:?}, {decimal}");
+        assert_unread(&["decode", text, "1"], &width);
+        let budget = format!("--budget is {text:?}, {decimal}");
+        assert_unread(&["run", "", "--budget", text], &budget);
+    }
+    assert_unread(&["pack", "1", "1", "x", "1"], "A is \"x\"");
+    assert_unread(&["pack", "1", "1", "0", "y"], "B is \"y\"");
+    assert_unread(
+        &["pack", "1", "1", "0", "1", "--length", "z"],
+        "--length is \"z\"",
+    );
+}
+
+#[test]
+fn lists() {
+    let byte = "expected a decimal number from 0 to 255";
+    let entry = format!("entry 2 of PERMUTATION is \"256\", {byte}");
+    assert_unread(&["route", "8", "0,1,256"], &entry);
+    let entry = format!("entry 1 of OPERATIONS.. is \"\", {byte}");
+    assert_unread(&["run", "1,,2"], &entry);
+    let entry =
+        "entry 0 of STAGES is \"100000000\", expected a hexadecimal number up to 0xFFFFFFFF";
+    assert_unread(&["inverse", "8", "100000000", "1"], entry);
+    let most = "STAGES is \"0,0,0,0,0,0,0\", expected at most 6 stages";
+    assert_unread(&["inverse", "8", "0,0,0,0,0,0,0", "1"], most);
+    assert_unread(
+        &["unpack", "1", "q", "0", "1"],
+        "entry 0 of PACKED is \"q\"",
+    );
+    let args = ["pack", "1", "1", "0", "1", "--out", "1,"];
+    assert_unread(&args, "entry 1 of --out is \"\"");
+}
+
+#[test]
+fn registers() {
+    let form = "--set is \"2\", expected R=WORD, such as 2=0xB6";
+    assert_unread(&["run", "", "--set", "2"], form);
+    assert_unread(&["run", "", "--set", "256=1"], "--set is \"256\"");
+    assert_unread(&["run", "", "--set", "1=2=3"], "--set is \"2=3\"");
+}
+
+#[test]
+fn too_few_and_too_many() {
+    assert_unread(&["gather", "8", "1"], "WORD is missing");
+    assert_unread(&["run"], "OPERATIONS.. is missing");
+    assert_unread(&["gather", "8", "1", "1", "5"], "\"5\" is one too many");
+}
+
+#[test]
+fn options() {
+    assert_unread(
+        &["gather", "--text", "8", "1", "1"],
+        "--text is no option of gather",
+    );
+    let route = |options: &[&'static str]| [&["route", "8", "0,1,2,3,4,5,6,7"], options].concat();
+    assert_unread(&route(&["--svg"]), "--svg needs FILE");
+    assert_unread(&route(&["--svg", "--text"]), "--svg needs FILE");
+    assert_unread(&route(&["--text=yes"]), "--text takes no value");
+    assert_unread(&route(&["--text", "--text"]), "--text is given twice");
+    let exclude = "--butterfly and --inverse exclude each other";
+    assert_unread(&route(&["--inverse", "--butterfly"]), exclude);
+    let both = "--svg - and --text both write to the output";
+    assert_unread(&route(&["--svg", "-", "--text"]), both);
+    let exclude = "--out and --length exclude each other";
+    let args = ["pack", "1", "1", "0", "1", "--length", "1", "--out", "1"];
+    assert_unread(&args, exclude);
+    assert_unread(
+        &route(&["--bit", "1"]),
+        "--bit needs a drawing, by --svg or --text",
+    );
+    let bit = "--bit is \"8\", expected a bit of the width, from 0 to 7";
+    assert_unread(&route(&["--text", "--bit", "8"]), bit);
+    assert_unread(&route(&["--text", "--bit", "x"]), "--bit is \"x\"");
+}
+
+/// The hint leads to the help of the command.
+#[test]
+fn hints() {
+    let hint = |args: &[&str]| run(args).error.lines().last().map(String::from);
+    assert_eq!(hint(&["turn"]).unwrap(), "see tigbayon --help");
+    assert_eq!(hint(&["gather"]).unwrap(), "see tigbayon gather --help");
+}
+
+#[cfg(unix)]
+#[test]
+fn text_that_is_not_utf_8() {
+    use std::ffi::OsStr;
+    use std::os::unix::ffi::OsStrExt;
+
+    let Outcome { status, error, .. } =
+        outcome(command(&["gather", "8"]).arg(OsStr::from_bytes(&[0xFF])));
+    assert_eq!(status, 1);
+    assert!(error.contains("is not UTF-8"), "{error}");
+}

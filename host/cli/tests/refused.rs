@@ -1,0 +1,143 @@
+//! Every refusal of every command is the library's.
+
+mod support;
+
+use support::{run, Outcome};
+use tigbayon::Refusal;
+
+/// Asserts that the call is refused so, and that nothing else is said.
+fn assert_refused(args: &[&str], refusal: Refusal) {
+    let Outcome {
+        status,
+        output,
+        error,
+    } = run(args);
+    assert_eq!((status, output.as_str()), (2, ""), "{args:?}");
+    let said = format!("refused {}: ", refusal.number());
+    assert!(error.starts_with(&said), "{args:?}: {error}");
+    assert_eq!(error.lines().count(), 1, "{args:?}: {error}");
+}
+
+#[test]
+fn by_width() {
+    for width in ["0", "7", "12", "128", "4294967295"] {
+        for call in ["gather", "scatter", "group", "butterfly", "inverse"] {
+            assert_refused(&[call, width, "1", "1"], Refusal::Width);
+        }
+        assert_refused(&["decode", width, "1"], Refusal::Width);
+        assert_refused(&["route", width, "0,1,2"], Refusal::Width);
+    }
+}
+
+#[test]
+fn by_a_one_above() {
+    for call in ["gather", "scatter", "group"] {
+        assert_refused(&[call, "8", "0xAD", "0x100"], Refusal::Above);
+        assert_refused(&[call, "32", "100000000", "0"], Refusal::Above);
+    }
+    for call in ["butterfly", "inverse"] {
+        assert_refused(&[call, "8", "0", "0x100"], Refusal::Above);
+    }
+    assert_refused(&["decode", "16", "0x10000"], Refusal::Above);
+}
+
+#[test]
+fn by_an_unused_control() {
+    for call in ["butterfly", "inverse"] {
+        assert_refused(&[call, "8", "0x10", "1"], Refusal::Unused);
+        assert_refused(&[call, "8", "0,0,0,1", "1"], Refusal::Unused);
+        assert_refused(&[call, "32", "0,0,0,0,0,1", "1"], Refusal::Unused);
+    }
+}
+
+#[test]
+fn by_length() {
+    let list = vec!["1"; 4100].join(",");
+    for network in [[].as_slice(), &["--butterfly"], &["--inverse"]] {
+        let route = |permutation| [&["route", "8", permutation], network].concat();
+        assert_refused(&route(""), Refusal::Length);
+        assert_refused(&route("0,1,2,3,4,5,6"), Refusal::Length);
+        assert_refused(&route("0,1,2,3,4,5,6,7,8"), Refusal::Length);
+        assert_refused(&route(&list), Refusal::Length);
+    }
+    assert_refused(&["run", "8,0,0,3,3"], Refusal::Length);
+    assert_refused(&["run", &list], Refusal::Length);
+}
+
+#[test]
+fn by_an_entry() {
+    for network in [[].as_slice(), &["--butterfly"], &["--inverse"]] {
+        for permutation in ["0,0,2,3,4,5,6,7", "0,1,2,3,4,5,6,8", "0,1,2,3,4,5,6,255"] {
+            let args = [&["route", "8", permutation], network].concat();
+            assert_refused(&args, Refusal::Entry);
+        }
+    }
+}
+
+#[test]
+fn by_the_one_network() {
+    for network in ["--butterfly", "--inverse"] {
+        let args = ["route", "8", "0,4,2,3,1,5,6,7", network];
+        assert_refused(&args, Refusal::NotRealised);
+    }
+}
+
+#[test]
+fn by_kind_and_register() {
+    for list in ["0,1,2,3", "11,1,2,3", "5,0,2,3", "5,5,2,3", "255,0,0,0"] {
+        assert_refused(&["run", list], Refusal::Kind);
+    }
+    for list in ["6,16,2,3", "6,1,16,3", "6,1,2,16", "5,1,2,255"] {
+        assert_refused(&["run", list], Refusal::Register);
+    }
+    assert_refused(&["run", "", "--set", "16=1"], Refusal::Register);
+}
+
+#[test]
+fn by_range() {
+    let long = vec!["1"; 2049].join(",");
+    for call in ["pack", "unpack"] {
+        assert_refused(&[call, "FFF", "1,2,3,4", "3", "2"], Refusal::Range);
+        assert_refused(
+            &[call, "1", "1", "18446744073709551615", "0"],
+            Refusal::Range,
+        );
+        assert_refused(
+            &[call, "1", "1", "0", "18446744073709551615"],
+            Refusal::Range,
+        );
+        assert_refused(&[call, "1", &long, "0", "1"], Refusal::Range);
+        assert_refused(&[call, "1", "1", "0", "1", "--out", &long], Refusal::Range);
+        for length in ["2049", "18446744073709551615"] {
+            let args = [call, "1", "1", "0", "1", "--length", length];
+            assert_refused(&args, Refusal::Range);
+        }
+        let args = [call, "1", "1", "0", "1", "--length", "2048"];
+        assert_eq!(run(&args).status, 0);
+    }
+    assert_refused(&["pack", "FFF", "1,2,3,4", "0", "5"], Refusal::Range);
+    let args = ["unpack", "FFF", "1", "0", "5", "--length", "4"];
+    assert_refused(&args, Refusal::Range);
+}
+
+#[test]
+fn by_a_short_strip() {
+    let call = ["pack", "0xFFF", "1,2,3,4,5,0x9A6", "0", "6"];
+    for lent in [["--out", "7"], ["--length", "1"], ["--out", ""]] {
+        assert_refused(&[&call[..], &lent].concat(), Refusal::Short);
+    }
+    assert_refused(&["unpack", "0xFFF", "1", "0", "6"], Refusal::Short);
+}
+
+/// A drawing of a refused call is not written.
+#[test]
+fn leave_no_file() {
+    let file = support::folder("refused").join("never.svg");
+    let name = file.to_str().unwrap();
+    assert_refused(&["decode", "12", "1", "--svg", name], Refusal::Width);
+    assert_refused(
+        &["route", "8", "1", "--svg", name, "--bit", "9"],
+        Refusal::Length,
+    );
+    assert!(!file.exists());
+}

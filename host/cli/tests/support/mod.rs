@@ -1,0 +1,75 @@
+//! Runs the command line.
+
+#![allow(dead_code, reason = "no test file uses all of it")]
+
+pub mod drawn;
+
+use std::fs;
+use std::path::{Path, PathBuf};
+use std::process::Command;
+
+/// What a command line did.
+#[derive(Debug, PartialEq, Eq)]
+pub struct Outcome {
+    /// The exit status.
+    pub status: i32,
+    /// What it printed.
+    pub output: String,
+    /// What it printed to the standard error.
+    pub error: String,
+}
+
+/// The command line, with these arguments.
+pub fn command(args: &[&str]) -> Command {
+    let mut command = Command::new(env!("CARGO_BIN_EXE_tigbayon"));
+    command.args(args);
+    command
+}
+
+/// Runs a command.
+pub fn outcome(command: &mut Command) -> Outcome {
+    let done = command.output().unwrap();
+    let [output, error] = [done.stdout, done.stderr].map(|text| String::from_utf8(text).unwrap());
+    let status = done.status.code().unwrap();
+    Outcome {
+        status,
+        output,
+        error,
+    }
+}
+
+/// Runs the command line with these arguments.
+pub fn run(args: &[&str]) -> Outcome {
+    outcome(&mut command(args))
+}
+
+/// Runs it with the arguments of this line, no one of which holds a space.
+pub fn run_line(line: &str) -> Outcome {
+    run(&Vec::from_iter(line.split(' ')))
+}
+
+/// What a call that is carried out prints.
+pub fn prints(args: &[&str]) -> String {
+    let outcome = run(args);
+    assert_eq!(
+        (outcome.status, outcome.error.as_str()),
+        (0, ""),
+        "{args:?}"
+    );
+    outcome.output
+}
+
+/// An empty folder for the files of the test of this name.
+pub fn folder(name: &str) -> PathBuf {
+    let folder = Path::new(env!("CARGO_TARGET_TMPDIR")).join(name);
+    if folder.exists() {
+        fs::remove_dir_all(&folder).unwrap();
+    }
+    fs::create_dir_all(&folder).unwrap();
+    folder
+}
+
+/// Numbers as a list.
+pub fn list(numbers: &[u8]) -> String {
+    Vec::from_iter(numbers.iter().map(u8::to_string)).join(",")
+}
