@@ -127,10 +127,11 @@ fn between_strips(
     let b = given.argument("B").number(Base::Decimal)?;
     let mut out = out(given, || enough(mask, &words, a..b))?;
     let bits = call(mask, &words, a..b, &mut out)?;
-    let words = hex_list(&out);
-    let lines = [format!("{bits} bits\n"), words + "\n"];
-    let shown = if out.is_empty() { 1 } else { 2 };
-    Ok(Answer::of(lines[..shown].concat()))
+    let written = match out.as_slice() {
+        [] => String::new(),
+        words => hex_list(words) + "\n",
+    };
+    Ok(Answer::of(format!("{bits} bits\n{written}")))
 }
 
 /// The strip to write into.

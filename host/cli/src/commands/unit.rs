@@ -26,7 +26,7 @@ pub const RUN: Command = Command {
         Choice::valued(
             "--set",
             "R=WORD",
-            "general register R, decimal, set to WORD, hexadecimal",
+            "general register R, decimal, set to WORD, hexadecimal; again for more",
         )
         .repeated(),
     ]],
