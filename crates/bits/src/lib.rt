@@ -1,4 +1,5 @@
-// What every call of the unit shares: accepted widths, the refusal numbers, the count of ones.
+// What every call of the unit shares: accepted widths, the refusal numbers, the count of ones (paper 01, 'What the unit covers' and
+// 'Calls turned back').
 ghost use mathlib.Core.Path.{_≡_};
 ghost use Rattle.bits.specs.Bit.{rank};
 ghost use Rattle.bits.specs.Refusal.{logOf, fits};

@@ -1,4 +1,4 @@
-// Stages, both networks and the decoder (paper 01, 'Columns').
+// Stages, both networks and the decoder from a mask to their controls (paper 01, 'Columns' and 'Decoder'; demand 3, its first half).
 ghost use mathlib.Core.Path.{_≡_};
 ghost use Prim.Native.Nat.{_+_, _-_, _*_, _^_, _≤_, _<_};
 ghost use mathlib.Core.Bool.{cond, true, false};

@@ -1,4 +1,4 @@
-// Packed fields: the bits that a mask marks in each of many words, end to end (paper 01, 'Strips').
+// Packed fields: the bits that a mask marks in each of many words, end to end (paper 01, 'Strips'; demand 2).
 ghost use mathlib.Core.Path.{_≡_};
 ghost use Prim.Native.Nat.{_+_, _-_, _*_, _≤_, _<_};
 ghost use lib.ListN.{length};

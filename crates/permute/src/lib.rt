@@ -1,5 +1,5 @@
 // Permutations of the bits of a word: the first controls for butterfly then inverse, and one network alone
-// (paper 01, 'Finder' and 'One network').
+// (paper 01, 'Finder' and 'One network'; demand 3 in one theorem).
 ghost use mathlib.Core.Path.{_≡_};
 ghost use mathlib.Core.Bool.{cond};
 ghost use mathlib.Core.List.{[]};

@@ -1,3 +1,4 @@
+// The mathematics of routing permutations, over every exponent (paper 01, 'Finder' and 'One network'; demand 3, its second half).
 // The crate is its specs and proofs; a crate needs one function.
 ghost use mathlib.Core.Path.{_≡_};
 

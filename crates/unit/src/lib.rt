@@ -1,4 +1,4 @@
-// The register unit (paper 01, 'The register unit'): the bank of registers by value, one operation, a run with a budget of cycles.
+// The register unit (paper 01, 'The register unit'; demand 2): the bank of registers by value, one operation, a run with a budget of cycles.
 ghost use mathlib.Core.Path.{_≡_};
 ghost use Prim.Native.Nat.{_+_, _*_, _/_, _%_, _^_, _≤_, _<_};
 ghost use lib.ListN.{length, set};
