@@ -1,15 +1,15 @@
 -- What the calls' answers come to, by the tests that the code makes. Assumes nothing.
 use mathlib.Core.Path.{_≡_, refl, sym, _∙_, ap}
-use mathlib.Core.Bool.{Bool, true, false, not, cond, _||_}
-use mathlib.Core.List.{List, [], _∷_}
+use mathlib.Core.Bool.{Bool, true, false, not, _||_}
+use mathlib.Core.List.{[], _∷_}
 use Prim.Native.Nat.{ℕ, _^_, _<_, _≤_}
 use native.Mathlib.Omega.{arith}
-use lib.Dec.{eqb}
+use native.Mathlib.Decide.{decLt}
 use borrow.Author.Tests.{eq-eqb, ne-eqb, ltb-true}
 use Rattle.bits.specs.Refusal.{accepted, fits, lowest, IsLowest}
 use Rattle.bits.proofs.Refusals.{width-le, lowest-law}
 use Rattle.gather.specs.declared.Gathered.{Gathered}
-use Rattle.gather.specs.Gather.{conditionsOf, refusalOf, answerOf}
+use Rattle.gather.specs.Gather.{conditionsOf, refusalOf, byRefusal, answerOf}
 
 -- the refusal, from the outcomes of the three tests: an accepted width, a word and a mask within it
 abbrev byTests : Bool → Bool → Bool → ℕ
@@ -40,15 +40,18 @@ module _ (w m x : ℕ) where
       by-tests false f g p q r z = absurd (omega arith)
 
   module _ (f : ℕ → ℕ → ℕ → ℕ) {n : ℕ} (e : n ≡ refusalOf w m x) where
-    pub refused : (n ≡ 0 → ⊥) → _≡_ {A = Gathered} (record { refusal = n; word = 0 }) (answerOf f w m x)
-    unfolding answerOf
-    refused z = rw (← e, ne-eqb n 0 z)
-
     pub carried-out : n ≡ 0 → {y : ℕ} → y ≡ f w m x → _≡_ {A = Gathered} (record { refusal = 0; word = y }) (answerOf f w m x)
     unfolding answerOf
     carried-out z y = rw (← e, eq-eqb n 0 z, y)
 
     -- the code computes at width 64
-    pub carried-out-64 : n ≡ 0 → (w ≤ 64 → m < 2 ^ w → x < 2 ^ w → f 64 m x ≡ f w m x) → {y : ℕ} → y ≡ f 64 m x
-        → _≡_ {A = Gathered} (record { refusal = 0; word = y }) (answerOf f w m x)
-    carried-out-64 z same y = let l = within (sym e ∙ z) in carried-out z (y ∙ same (width-le w (l .0)) (l .2) (l .1))
+    pub answer-64 : (w ≤ 64 → m < 2 ^ w → x < 2 ^ w → f 64 m x ≡ f w m x) → {y : ℕ} → y ≡ f 64 m x → {r : Gathered} → r ≡ byRefusal n y → r ≡ answerOf f w m x
+    unfolding answerOf
+    answer-64 same {y} g b = b ∙ by (decLt 0 n)
+      where
+        by : Dec (0 < n) → byRefusal n y ≡ byRefusal (refusalOf w m x) (f w m x)
+        by (yes h) = let z : n ≡ 0 → ⊥ = λ q. omega arith in rw (← e, ne-eqb n 0 z)
+        by (no h) =
+            let z : n ≡ 0 = omega arith in
+            let l = within (sym e ∙ z) in
+            rw (← e, eq-eqb n 0 z) (ap (λ (v : ℕ). record { refusal = 0; word = v }) (g ∙ same (width-le w (l .0)) (l .2) (l .1)))

@@ -26,7 +26,10 @@ conditionsOf w m x = (1, not (accepted w)) ∷ (2, not (fits w x) || not (fits w
 unfoldable pub refusalOf : ℕ → ℕ → ℕ → ℕ
 refusalOf w m x = lowest (conditionsOf w m x)
 
--- the whole answer of a call that means f: the refusal and a zero, or no refusal and the word
+-- the refusal and a zero, or no refusal and the word
+abbrev pub byRefusal : ℕ → ℕ → Gathered
+byRefusal n y = cond (eqb n 0) (record { refusal = 0; word = y }) (record { refusal = n; word = 0 })
+
+-- the whole answer of a call that means f
 unfoldable pub answerOf : (ℕ → ℕ → ℕ → ℕ) → ℕ → ℕ → ℕ → Gathered
-answerOf f w m x =
-    cond (eqb (refusalOf w m x) 0) (record { refusal = 0; word = f w m x }) (record { refusal = refusalOf w m x; word = 0 })
+answerOf f w m x = byRefusal (refusalOf w m x) (f w m x)

@@ -2,7 +2,7 @@
 ghost use mathlib.Core.Path.{_≡_};
 ghost use Prim.Native.Nat.{_^_, _≤_, _<_};
 ghost use Rattle.gather.specs.Moves.{Parities, Moves};
-ghost use Rattle.gather.specs.Gather.{gatherOf, scatterOf, groupOf, refusalOf, answerOf};
+ghost use Rattle.gather.specs.Gather.{gatherOf, scatterOf, groupOf, refusalOf, byRefusal, answerOf};
 
 // What a call answers: 0 and the word, or the number of the refusal and a zero.
 #[repr(C)]
@@ -97,53 +97,36 @@ fn group_bits(mask: u64, word: u64) -> u64
     low + (compress(!mask, word) << count)
 }
 
-// The marked bits of the word, brought to the right in order, zeros above.
-pub fn gather(width: u32, mask: u64, word: u64) -> Gathered
-    ensures { λ r. ⌜ r ≡ answerOf gatherOf width mask word ⌝ }
+// The answer of a call: the word, unless it is refused.
+fn answer(refused: u8, word: u64) -> Gathered
+    ensures { λ r. ⌜ r ≡ byRefusal refused word ⌝ }
 {
-    let refused = refusal(width, mask, word);
     if refused != 0 {
         return Gathered {
             refusal: refused,
             word: 0,
         };
     }
-    Gathered {
-        refusal: 0,
-        word: compress(mask, word),
-    }
+    Gathered { refusal: 0, word }
+}
+
+// The marked bits of the word, brought to the right in order, zeros above.
+pub fn gather(width: u32, mask: u64, word: u64) -> Gathered
+    ensures { λ r. ⌜ r ≡ answerOf gatherOf width mask word ⌝ }
+{
+    answer(refusal(width, mask, word), compress(mask, word))
 }
 
 // The bits of the word from the right, taken in order to the marked places, zeros elsewhere.
 pub fn scatter(width: u32, mask: u64, word: u64) -> Gathered
     ensures { λ r. ⌜ r ≡ answerOf scatterOf width mask word ⌝ }
 {
-    let refused = refusal(width, mask, word);
-    if refused != 0 {
-        return Gathered {
-            refusal: refused,
-            word: 0,
-        };
-    }
-    Gathered {
-        refusal: 0,
-        word: expand(mask, word),
-    }
+    answer(refusal(width, mask, word), expand(mask, word))
 }
 
 // The marked bits of the word in order, and above them the unmarked ones in order.
 pub fn group(width: u32, mask: u64, word: u64) -> Gathered
     ensures { λ r. ⌜ r ≡ answerOf groupOf width mask word ⌝ }
 {
-    let refused = refusal(width, mask, word);
-    if refused != 0 {
-        return Gathered {
-            refusal: refused,
-            word: 0,
-        };
-    }
-    Gathered {
-        refusal: 0,
-        word: group_bits(mask, word),
-    }
+    answer(refusal(width, mask, word), group_bits(mask, word))
 }
