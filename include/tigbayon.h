@@ -113,6 +113,52 @@ TbCarried tb_butterfly(uint32_t width, const uint32_t stages[6], uint64_t word);
 TbCarried tb_inverse(uint32_t width, const uint32_t stages[6], uint64_t word);
 
 /*
+ * Prepared networks. Preparing checks controls and brings them to their bits
+ * once; any number of words is then sent through, each in less time than by
+ * tb_butterfly or tb_inverse.
+ *
+ * For either network swaps[i] is the stage of distance d = 32 >> i, the widest
+ * first, with ones at the lower bits of the pairs that swap. At distances w and
+ * above it is zero. Below that, every pair at bit w and above is marked too, its
+ * control bit being unused and zero; no word of the width notices.
+ */
+
+/* The answer of tb_prepare_butterfly and tb_prepare_inverse. */
+typedef struct {
+    uint8_t refusal;   /* an enum TbRefusal */
+    uint64_t swaps[6]; /* for the network named, prepared; zeros if the call is refused */
+} TbPrepared;
+
+/*
+ * Prepare the butterfly, for tb_butterfly_prepared.
+ * Refusals: TB_REFUSAL_WIDTH, TB_REFUSAL_UNUSED.
+ */
+TbPrepared tb_prepare_butterfly(uint32_t width, const uint32_t stages[6]);
+
+/*
+ * Prepare the inverse, for tb_inverse_prepared.
+ * Refusals: TB_REFUSAL_WIDTH, TB_REFUSAL_UNUSED.
+ */
+TbPrepared tb_prepare_inverse(uint32_t width, const uint32_t stages[6]);
+
+/*
+ * Butterfly, prepared: the word sent through the stages of swaps[0] to swaps[5].
+ * On the swaps that tb_prepare_butterfly answers, the result is that of
+ * tb_butterfly for each word of the width. Of any other word the bits below w go
+ * likewise, and the others stay at bit w and above.
+ *
+ * Nothing is refused: on any six words, at each distance d the word x becomes
+ * x ^ t ^ (t << d), where t is (x ^ (x >> d)) & swaps[i].
+ */
+uint64_t tb_butterfly_prepared(const uint64_t swaps[6], uint64_t word);
+
+/*
+ * Inverse, prepared: the same through the stages of swaps[5] to swaps[0], for
+ * tb_prepare_inverse and tb_inverse.
+ */
+uint64_t tb_inverse_prepared(const uint64_t swaps[6], uint64_t word);
+
+/*
  * Decode: the controls by which the networks scatter and gather. At distance
  * d, control bits j*d to j*d + d-1 are d zeros turned left once for each one
  * of the mask in bits 0 to 2*j*d + d-1, where a turn moves the top bit to the

@@ -2,8 +2,11 @@
 // No logic is here, and each promise is that call's. The host lends its register bank: it is copied out, and what the call
 // leaves is stored back.
 ghost use mathlib.Core.Path.{_≡_};
-ghost use Rattle.network.specs.Stage.{butterflyOf, inverseOf};
-ghost use Rattle.network.specs.Calls.{carryAnswer, decodeAnswer};
+ghost use mathlib.Core.Bool.{true, false};
+ghost use mathlib.Core.List.{reverse};
+ghost use Rattle.network.specs.Stage.{falling, rising, butterflyOf, inverseOf};
+ghost use Rattle.network.specs.Word.{exchangesOf};
+ghost use Rattle.network.specs.Calls.{carryAnswer, prepareAnswer, decodeAnswer};
 ghost use Rattle.routing.specs.Lists.{butterflyFits, butterflyAlone, inverseFits, inverseAlone};
 ghost use Rattle.unit.specs.Run.{ranAt, runOf};
 ghost use Rattle.unit.specs.Calls.{operated, operateOf, readOf, written, writeOf};
@@ -46,6 +49,36 @@ pub extern "C" fn tb_inverse(width: u32, stages: &[u32; 6], word: u64) -> networ
 {
     let stages = *stages;
     network::inverse(width, network::Controls { stages }, word)
+}
+
+#[no_mangle]
+pub extern "C" fn tb_prepare_butterfly(width: u32, stages: &[u32; 6]) -> network::Prepared
+    ensures { λ r. ⌜ r ≡ prepareAnswer false width (record { stages = now (stages .entry) }) ⌝ }
+{
+    let stages = *stages;
+    network::prepare_butterfly(width, network::Controls { stages })
+}
+
+#[no_mangle]
+pub extern "C" fn tb_prepare_inverse(width: u32, stages: &[u32; 6]) -> network::Prepared
+    ensures { λ r. ⌜ r ≡ prepareAnswer true width (record { stages = now (stages .entry) }) ⌝ }
+{
+    let stages = *stages;
+    network::prepare_inverse(width, network::Controls { stages })
+}
+
+#[no_mangle]
+pub extern "C" fn tb_butterfly_prepared(swaps: &[u64; 6], word: u64) -> u64
+    ensures { λ r. ⌜ r ≡ exchangesOf (falling 6) (now (swaps .entry)) word ⌝ }
+{
+    network::fall(*swaps, word)
+}
+
+#[no_mangle]
+pub extern "C" fn tb_inverse_prepared(swaps: &[u64; 6], word: u64) -> u64
+    ensures { λ r. ⌜ r ≡ exchangesOf (rising 6) (reverse (now (swaps .entry))) word ⌝ }
+{
+    network::rise(*swaps, word)
 }
 
 #[no_mangle]

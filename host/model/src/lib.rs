@@ -1,4 +1,5 @@
-//! An independent model of Tigbayon, written from the papers alone.
+//! An independent model of Tigbayon, written from the papers alone, and for
+//! prepared networks from the C header.
 //!
 //! Each definition goes bit by bit and follows the sentence of paper 01 that
 //! it quotes. Nothing here is meant to be fast, and nothing is shared with the
@@ -11,6 +12,7 @@ pub mod gather;
 pub mod network;
 pub mod packing;
 pub mod permutation;
+pub mod prepared;
 pub mod refusal;
 pub mod routing;
 pub mod unit;

@@ -86,7 +86,7 @@ fn answer(
 }
 
 /// "Unused columns and bits are zero": a one outside the L stages of w/2 bits.
-fn has_unused_one(width: u32, controls: &Controls) -> bool {
+pub(crate) fn has_unused_one(width: u32, controls: &Controls) -> bool {
     let stages = width.checked_ilog2().unwrap_or(0);
     (0..).zip(controls).any(|(i, &stage)| {
         let used_bits = if i < stages { width / 2 } else { 0 };

@@ -23,6 +23,17 @@ pub struct TbCarried {
     pub word: u64,
 }
 
+/// The answer of preparing either network.
+#[repr(C)]
+#[derive(Clone, Copy, Debug, PartialEq, Eq)]
+pub struct TbPrepared {
+    /// The refusal's number, 0 where the call is carried out.
+    pub refusal: u8,
+    /// The swaps of its stages, the widest first; zeros where the call is
+    /// refused.
+    pub swaps: [u64; 6],
+}
+
 /// Controls for one network: the answer of its routing.
 #[repr(C)]
 #[derive(Clone, Copy, Debug, PartialEq, Eq)]
@@ -102,6 +113,12 @@ impl From<TbCarried> for Result<u64, Refusal> {
     }
 }
 
+impl From<TbPrepared> for Result<[u64; 6], Refusal> {
+    fn from(answer: TbPrepared) -> Self {
+        Refusal::check(answer.refusal).map(|()| answer.swaps)
+    }
+}
+
 impl From<TbControls1> for Result<Controls, Refusal> {
     fn from(answer: TbControls1) -> Self {
         Refusal::check(answer.refusal).map(|()| Controls::from(answer.stages))
@@ -168,6 +185,14 @@ unsafe extern "C" {
     pub safe fn tb_butterfly(width: u32, stages: &[u32; 6], word: u64) -> TbCarried;
     /// See [`crate::inverse()`].
     pub safe fn tb_inverse(width: u32, stages: &[u32; 6], word: u64) -> TbCarried;
+    /// See [`crate::PreparedButterfly::new()`].
+    pub safe fn tb_prepare_butterfly(width: u32, stages: &[u32; 6]) -> TbPrepared;
+    /// See [`crate::PreparedInverse::new()`].
+    pub safe fn tb_prepare_inverse(width: u32, stages: &[u32; 6]) -> TbPrepared;
+    /// See [`crate::PreparedButterfly::carry()`].
+    pub safe fn tb_butterfly_prepared(swaps: &[u64; 6], word: u64) -> u64;
+    /// See [`crate::PreparedInverse::carry()`].
+    pub safe fn tb_inverse_prepared(swaps: &[u64; 6], word: u64) -> u64;
     /// See [`crate::decode()`].
     pub safe fn tb_decode(width: u32, mask: u64) -> TbControls2;
     /// See [`crate::Bank::operate()`].

@@ -3,28 +3,33 @@
 //! A width is 8, 16, 32 or 64. A word or a mask of width w has zeros at bit w
 //! and above, bits counted from 0 at the right; the ones of a mask mark bits. A
 //! permutation of width w names each bit below w once: entry p is the bit that
-//! place p takes. A strip is a row of at most 2,048 words of width 64. A
-//! [`Bank`] holds the registers of a unit that performs lists of operations of
-//! width 64. Each function here is answered for every input: with its result, or
-//! with the lowest [`Refusal`] that applies.
+//! place p takes. A [`PreparedButterfly`] or [`PreparedInverse`] is a network
+//! made ready once for many words. A strip is a row of at most 2,048 words of
+//! width 64. A [`Bank`] holds the registers of a unit that performs lists of
+//! operations of width 64. Each function here is answered for every input: with
+//! its result, or with the lowest [`Refusal`] that applies.
 
 mod ffi;
 mod gather;
 mod network;
 mod packing;
+mod prepared;
 mod refusal;
 mod routing;
 mod unit;
 
 #[doc(hidden)]
 pub use ffi::{
-    tb_butterfly, tb_decode, tb_gather, tb_group, tb_inverse, tb_operate, tb_pack, tb_read,
+    tb_butterfly, tb_butterfly_prepared, tb_decode, tb_gather, tb_group, tb_inverse,
+    tb_inverse_prepared, tb_operate, tb_pack, tb_prepare_butterfly, tb_prepare_inverse, tb_read,
     tb_route, tb_route_butterfly, tb_route_inverse, tb_run, tb_scatter, tb_unpack, tb_write,
-    TbBank, TbCarried, TbControls1, TbControls2, TbCycles, TbGathered, TbPacked, TbRegister, TbRun,
+    TbBank, TbCarried, TbControls1, TbControls2, TbCycles, TbGathered, TbPacked, TbPrepared,
+    TbRegister, TbRun,
 };
 pub use gather::{gather, group, scatter};
 pub use network::{butterfly, decode, inverse, Controls, Decoded};
 pub use packing::{pack, unpack};
+pub use prepared::{PreparedButterfly, PreparedInverse};
 pub use refusal::Refusal;
 pub use routing::{route, route_butterfly, route_inverse, Routed};
 pub use unit::{Bank, End, Run};
