@@ -1,12 +1,14 @@
 //! A call of the library beside its model.
 
 use crate::controls::Controls;
-use crate::guards::only_read;
+use crate::guards::{only_read, only_read_array};
 use model::decoder::Decoded;
+use model::prepared::Swaps;
 use model::refusal::Answer;
 use model::routing::Routed;
 use std::fmt::Debug;
-use tigbayon::{Refusal, TbCarried, TbControls1, TbControls2, TbGathered};
+use tigbayon::{PreparedButterfly, PreparedInverse, Refusal};
+use tigbayon::{TbCarried, TbControls1, TbControls2, TbGathered, TbPrepared};
 
 /// What a call goes by: a mask or controls, which are handed over, or a
 /// permutation, which is lent.
@@ -68,7 +70,7 @@ pub const GROUP: Call<u64> = Call {
 pub const BUTTERFLY: Call<Controls> = Call {
     name: "butterfly",
     raw: |width, controls, word| {
-        carried(on_stages(controls, |stages| {
+        carried(only_read_array(controls, |stages| {
             tigbayon::tb_butterfly(width, stages, word)
         }))
     },
@@ -80,12 +82,40 @@ pub const BUTTERFLY: Call<Controls> = Call {
 pub const INVERSE: Call<Controls> = Call {
     name: "inverse",
     raw: |width, controls, word| {
-        carried(on_stages(controls, |stages| {
+        carried(only_read_array(controls, |stages| {
             tigbayon::tb_inverse(width, stages, word)
         }))
     },
     wrapped: |width, controls, word| tigbayon::inverse(width, &controls.into(), word),
     model: |width, controls, word| model::network::inverse(width, &controls, word),
+};
+
+/// Preparing the butterfly.
+pub const PREPARE_BUTTERFLY: Call<Controls, Swaps, ()> = Call {
+    name: "prepare_butterfly",
+    raw: |width, controls, ()| {
+        prepared(only_read_array(controls, |stages| {
+            tigbayon::tb_prepare_butterfly(width, stages)
+        }))
+    },
+    wrapped: |width, controls, ()| {
+        PreparedButterfly::new(width, &controls.into()).map(|prepared| prepared.swaps())
+    },
+    model: |width, controls, ()| model::prepared::prepare_butterfly(width, &controls),
+};
+
+/// Preparing the inverse butterfly.
+pub const PREPARE_INVERSE: Call<Controls, Swaps, ()> = Call {
+    name: "prepare_inverse",
+    raw: |width, controls, ()| {
+        prepared(only_read_array(controls, |stages| {
+            tigbayon::tb_prepare_inverse(width, stages)
+        }))
+    },
+    wrapped: |width, controls, ()| {
+        PreparedInverse::new(width, &controls.into()).map(|prepared| prepared.swaps())
+    },
+    model: |width, controls, ()| model::prepared::prepare_inverse(width, &controls),
 };
 
 /// The decoder.
@@ -153,6 +183,9 @@ pub const MASK_CALLS: [Call<u64>; 3] = [GATHER, SCATTER, GROUP];
 
 /// Both networks.
 pub const NETWORKS: [Call<Controls>; 2] = [BUTTERFLY, INVERSE];
+
+/// Preparing either, in the same order.
+pub const PREPARE: [Call<Controls, Swaps, ()>; 2] = [PREPARE_BUTTERFLY, PREPARE_INVERSE];
 
 /// Routing through one network, in the same order.
 pub const ROUTE_ONE: [Call<[u8], Controls, ()>; 2] = [ROUTE_BUTTERFLY, ROUTE_INVERSE];
@@ -223,13 +256,6 @@ pub fn route(width: u32, permutation: &[u8]) -> Routed {
     ROUTE.result(width, permutation, ())
 }
 
-/// What a call of stages, which it only reads, answers.
-fn on_stages<A>(controls: Controls, call: impl FnOnce(&Controls) -> A) -> A {
-    only_read(&controls, |stages| {
-        call(stages.try_into().expect("six stages"))
-    })
-}
-
 fn gathered(TbGathered { refusal, word }: TbGathered) -> Answer<u64> {
     let result = word;
     Answer { refusal, result }
@@ -237,6 +263,11 @@ fn gathered(TbGathered { refusal, word }: TbGathered) -> Answer<u64> {
 
 fn carried(TbCarried { refusal, word }: TbCarried) -> Answer<u64> {
     let result = word;
+    Answer { refusal, result }
+}
+
+fn prepared(TbPrepared { refusal, swaps }: TbPrepared) -> Answer<Swaps> {
+    let result = swaps;
     Answer { refusal, result }
 }
 

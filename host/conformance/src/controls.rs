@@ -20,3 +20,9 @@ pub fn reversed(width: u32, mut controls: Controls) -> Controls {
     controls[..stages(width)].reverse();
     controls
 }
+
+/// All 4,096 controls of width 8.
+pub fn all_of_width_8() -> impl Iterator<Item = Controls> {
+    let controls = |switches: u32| [switches & 0xF, switches >> 4 & 0xF, switches >> 8, 0, 0, 0];
+    (0..1 << 12).map(controls)
+}

@@ -4,12 +4,16 @@
 use crate::arbitrary::{budget, controls, cut, length, list, operation, other_length};
 use crate::arbitrary::{permutation, register, widths, word};
 use crate::call::{Call, BUTTERFLY, DECODE, GATHER, GROUP, INVERSE, SCATTER};
-use crate::call::{ROUTE, ROUTE_BUTTERFLY, ROUTE_INVERSE};
+use crate::call::{PREPARE_BUTTERFLY, PREPARE_INVERSE, ROUTE, ROUTE_BUTTERFLY, ROUTE_INVERSE};
 use crate::controls::Controls;
+use crate::prepared::{Passage, THROUGH_BUTTERFLY, THROUGH_INVERSE};
 use crate::programs::bank;
-use crate::samples::Random;
+use crate::samples::{any_controls, any_swaps, any_word, Random};
 use crate::strips::{StripCall, PACK, UNPACK};
 use crate::unit::{operate, read, run, write};
+use crate::WIDTHS;
+use model::prepared::Swaps;
+use model::refusal::NONE;
 use std::fmt::{self, Debug, Display, Formatter};
 use std::iter::zip;
 use std::panic::{catch_unwind, resume_unwind};
@@ -20,13 +24,13 @@ const NUMBERS: usize = 11;
 /// An exported call.
 struct Target {
     name: &'static str,
-    /// The refusal numbers that it can answer.
+    /// The refusal numbers that it can answer; 0 alone where it has none.
     numbers: &'static [usize],
     /// Checks it on arbitrary arguments and answers the number.
     check: fn(&mut Random) -> u8,
 }
 
-const TARGETS: [Target; 15] = [
+const TARGETS: [Target; 19] = [
     target("gather", &[0, 1, 2], |random| masked(random, GATHER)),
     target("scatter", &[0, 1, 2], |random| masked(random, SCATTER)),
     target("group", &[0, 1, 2], |random| masked(random, GROUP)),
@@ -34,6 +38,18 @@ const TARGETS: [Target; 15] = [
         carried(random, BUTTERFLY)
     }),
     target("inverse", &[0, 1, 2, 3], |random| carried(random, INVERSE)),
+    target("prepare_butterfly", &[0, 1, 3], |random| {
+        prepared(random, PREPARE_BUTTERFLY)
+    }),
+    target("prepare_inverse", &[0, 1, 3], |random| {
+        prepared(random, PREPARE_INVERSE)
+    }),
+    target("butterfly_prepared", &[0], |random| {
+        passed(random, THROUGH_BUTTERFLY)
+    }),
+    target("inverse_prepared", &[0], |random| {
+        passed(random, THROUGH_INVERSE)
+    }),
     target("decode", &[0, 1, 2], |random| {
         let (handed, width) = widths(random);
         DECODE.check(handed, word(random, width), ()).refusal
@@ -87,6 +103,24 @@ fn carried(random: &mut Random, call: Call<Controls>) -> u8 {
     call.check(handed, controls, word(random, width)).refusal
 }
 
+fn prepared(random: &mut Random, call: Call<Controls, Swaps, ()>) -> u8 {
+    let (handed, width) = widths(random);
+    call.check(handed, controls(random, width), ()).refusal
+}
+
+/// On a prepared network, or on any six words; nothing is refused.
+fn passed(random: &mut Random, passage: Passage) -> u8 {
+    let width = random.pick(&WIDTHS);
+    let controls = any_controls(random, width);
+    let word = any_word(random, 64);
+    if random.below(2) == 0 {
+        passage.prepared(width, controls)(word);
+    } else {
+        passage.check(any_swaps(random), word);
+    }
+    NONE
+}
+
 fn routed<R: Copy + Debug + PartialEq>(random: &mut Random, call: Call<[u8], R, ()>) -> u8 {
     let (handed, width) = widths(random);
     call.check(handed, &permutation(random, width), ()).refusal
@@ -117,11 +151,11 @@ impl Tally {
 
 impl Display for Tally {
     fn fmt(&self, f: &mut Formatter<'_>) -> fmt::Result {
-        write!(f, "{:<16} {:>9} |", "call", "calls")?;
+        write!(f, "{:<18} {:>9} |", "call", "calls")?;
         (0..NUMBERS).try_for_each(|number| write!(f, " {number:>8}"))?;
         for (target, counts) in zip(&TARGETS, &self.0) {
             let calls: u64 = counts.iter().sum();
-            write!(f, "\n{:<16} {calls:>9} |", target.name)?;
+            write!(f, "\n{:<18} {calls:>9} |", target.name)?;
             for (number, count) in counts.iter().enumerate() {
                 // A number that the call cannot answer is left out.
                 let shown = target.numbers.contains(&number) || *count > 0;

@@ -30,3 +30,11 @@ where
     assert!(after == numbers, "a call wrote to what it may only read");
     answer
 }
+
+/// The same, of as many numbers as the call takes.
+pub fn only_read_array<T, A, const N: usize>(numbers: [T; N], call: impl FnOnce(&[T; N]) -> A) -> A
+where
+    T: Copy + PartialEq + From<u8>,
+{
+    only_read(&numbers, |copy| call(copy.try_into().expect("as many")))
+}

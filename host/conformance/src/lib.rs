@@ -6,6 +6,7 @@ pub mod controls;
 pub mod fuzz;
 pub mod guards;
 pub mod permutations;
+pub mod prepared;
 pub mod programs;
 pub mod refusals;
 pub mod samples;

@@ -5,6 +5,7 @@ use crate::controls::{stages, Controls};
 use crate::low_ones;
 use crate::permutations::{identity, product, realised, rotation, swap, FIXED};
 use model::network;
+use model::prepared::Swaps;
 use model::refusal::Answer;
 
 /// The seed of every test's samples.
@@ -103,6 +104,17 @@ pub fn any_controls(random: &mut Random, width: u32) -> Controls {
     controls(random, shape, width)
 }
 
+/// Six words of this shape and width, which mark upper bits too.
+fn swaps(random: &mut Random, shape: Shape, width: u32) -> Swaps {
+    [(); 6].map(|()| word(random, shape, width))
+}
+
+/// Six words of some shape.
+pub fn any_swaps(random: &mut Random) -> Swaps {
+    let shape = random.pick(&SHAPES);
+    swaps(random, shape, 64)
+}
+
 /// A kind of permutation, made for a width.
 type PermutationShape = fn(&mut Random, u32) -> Vec<u8>;
 
@@ -179,6 +191,12 @@ pub fn for_each(width: u32, rounds: u32, test: impl FnMut(u64, u64)) -> u32 {
 /// answers how many that were.
 pub fn for_each_controls(width: u32, rounds: u32, test: impl FnMut(Controls, u64)) -> u32 {
     for_each_pair(width, rounds, controls, test)
+}
+
+/// Hands `rounds` six words and words of each pair of shapes to `test`, and
+/// answers how many that were.
+pub fn for_each_swaps(rounds: u32, test: impl FnMut(Swaps, u64)) -> u32 {
+    for_each_pair(64, rounds, swaps, test)
 }
 
 fn for_each_pair<X>(

@@ -1,6 +1,7 @@
 //! Library, wrapper and model agree where a call is carried out.
 
 use conformance::call::{check_all, decode, MASK_CALLS, NETWORKS};
+use conformance::controls::all_of_width_8;
 use conformance::samples::{for_each, for_each_controls, Random};
 use conformance::WIDTHS;
 
@@ -37,8 +38,7 @@ fn a_million_samples_of_widths_16_32_64() {
 
 #[test]
 fn networks_on_all_controls_and_words_of_width_8() {
-    for switches in 0..1 << 12 {
-        let controls = [switches & 0xF, switches >> 4 & 0xF, switches >> 8, 0, 0, 0];
+    for controls in all_of_width_8() {
         for word in 0..=0xFF {
             check_all(&NETWORKS, 8, controls, word);
         }

@@ -5,9 +5,22 @@ use std::mem::{offset_of, size_of};
 use std::path::Path;
 use std::process::Command;
 use tigbayon::{Refusal, TbBank, TbCarried, TbControls1, TbControls2};
-use tigbayon::{TbCycles, TbGathered, TbPacked, TbRegister, TbRun};
+use tigbayon::{TbCycles, TbGathered, TbPacked, TbPrepared, TbRegister, TbRun};
 
 const CRATE: &str = env!("CARGO_MANIFEST_DIR");
+
+/// What it prints of prepared networks.
+const PREPARED: &str = "\
+    prepare_butterfly 0: 0 0 0 f0f0f0f0f0f0f08 3333333333333332 5555555555555544\n\
+    butterfly_prepared a4\n\
+    prepare_inverse 0: 0 0 0 f0f0f0f0f0f0f08 3333333333333332 5555555555555544\n\
+    inverse_prepared 1a\n\
+    prepare_butterfly 0: ffffffff ffff0000ffff ff00ff00ff00ff f0f0f0f0f0f0f0f \
+    3333333333333333 5555555555555555\n\
+    prepare_butterfly 1: 0 0 0 0 0 0\n\
+    prepare_inverse 3: 0 0 0 0 0 0\n\
+    butterfly_prepared 380000000\n\
+    inverse_prepared 2\n";
 
 /// What pack and unpack answer, and the words of the strips then.
 const STRIPS: &str = "\
@@ -75,6 +88,7 @@ fn layouts() -> String {
     }
     layout!(TbGathered, refusal, word)
         + &layout!(TbCarried, refusal, word)
+        + &layout!(TbPrepared, refusal, swaps)
         + &layout!(TbControls1, refusal, stages)
         + &layout!(TbControls2, refusal, butterfly, inverse)
         + &layout!(TbPacked, refusal, bits)
@@ -114,7 +128,7 @@ fn expected() -> String {
         permutation 0 4 2 3 1 5 6 7\n";
     let layouts = layouts();
     let numbers = numbers.concat();
-    format!("{layouts}numbers 0{numbers}\n{answers}{STRIPS}{UNIT}")
+    format!("{layouts}numbers 0{numbers}\n{answers}{PREPARED}{STRIPS}{UNIT}")
 }
 
 #[test]

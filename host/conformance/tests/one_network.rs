@@ -2,7 +2,7 @@
 //! 6 exactly if there are none."
 
 use conformance::call::{route, Call, NETWORKS, ROUTE_INVERSE, ROUTE_ONE};
-use conformance::controls::{pass_all, reversed, Controls};
+use conformance::controls::{self, pass_all, reversed, Controls};
 use conformance::permutations::{all_of_width_8, realised, undoing};
 use conformance::samples::{for_each_controls, for_each_permutation};
 use conformance::WIDTHS;
@@ -44,10 +44,8 @@ fn every_permutation_of_width_8_on_every_word() {
 
 #[test]
 fn all_controls_of_width_8_come_back() {
-    for switches in 0..1 << 12 {
-        let stages = [switches & 0xF, switches >> 4 & 0xF, switches >> 8];
-        let [stage_1, stage_2, stage_3] = stages;
-        assert_come_back(8, [stage_1, stage_2, stage_3, 0, 0, 0]);
+    for controls in controls::all_of_width_8() {
+        assert_come_back(8, controls);
     }
 }
 

@@ -1,6 +1,6 @@
 //! Damaged inputs get the lowest number that applies, and zeros for the rest.
 
-use conformance::call::{DECODE, MASK_CALLS, NETWORKS};
+use conformance::call::{DECODE, MASK_CALLS, NETWORKS, PREPARE};
 use conformance::controls::{pass_all, stages, Controls};
 use conformance::refusals::{assert_number, other_widths};
 use conformance::{low_ones, WIDTHS};
@@ -68,6 +68,9 @@ fn unused(width: u32, controls: Controls) -> u8 {
 #[test]
 fn every_other_width_is_refusal_1_whatever_the_rest() {
     for width in other_widths() {
+        for controls in CONTROLS {
+            assert_number(&PREPARE, 1, width, controls, ());
+        }
         for word in WORDS {
             assert_number(&[DECODE], 1, width, word, ());
             for mask in WORDS {
@@ -83,6 +86,9 @@ fn every_other_width_is_refusal_1_whatever_the_rest() {
 #[test]
 fn accepted_widths_are_refused_by_range_and_then_by_unused_controls() {
     for width in WIDTHS {
+        for controls in CONTROLS {
+            assert_number(&PREPARE, unused(width, controls), width, controls, ());
+        }
         for word in WORDS {
             assert_number(&[DECODE], above_or(width, word, 0), width, word, ());
             for mask in WORDS {
@@ -141,6 +147,8 @@ fn each_single_control_bit_is_refusal_3_exactly_if_unused() {
                 assert_number(&NETWORKS, number, width, controls, 0);
                 assert_number(&NETWORKS, number, width, controls, low_ones(width));
                 assert_number(&NETWORKS, 1, width + 1, controls, 0);
+                assert_number(&PREPARE, number, width, controls, ());
+                assert_number(&PREPARE, 1, width + 1, controls, ());
             }
         }
     }
@@ -154,6 +162,7 @@ fn each_unused_stage_is_refusal_3_whatever_its_bits() {
                 let mut controls = pass_all(width);
                 controls[stage] = bits;
                 assert_number(&NETWORKS, 3, width, controls, 0xAD);
+                assert_number(&PREPARE, 3, width, controls, ());
             }
         }
     }
@@ -166,6 +175,7 @@ fn examples_of_the_table_of_refusals() {
     assert_number(&MASK_CALLS, 1, 12, 0xAD, 0xB6);
     assert_number(&MASK_CALLS, 2, 8, 0xAD, 0x100);
     assert_number(&NETWORKS, 3, 8, [0x10, 0, 0, 0, 0, 0], 0xB6);
+    assert_number(&PREPARE, 3, 8, [0x10, 0, 0, 0, 0, 0], ());
 }
 
 /// Each number with every higher one.
@@ -176,4 +186,5 @@ fn the_lowest_number_wins() {
     assert_number(&NETWORKS, 1, 12, unused, 0xB6);
     assert_number(&NETWORKS, 1, 12, [0; 6], 0x1000);
     assert_number(&NETWORKS, 2, 8, unused, 0x100);
+    assert_number(&PREPARE, 1, 12, unused, ());
 }

@@ -5,7 +5,7 @@ use conformance::arbitrary::{controls, cut, list, operation, permutation};
 use conformance::arbitrary::{register, widths, word};
 use conformance::permutations::{one_loop, FIXED};
 use conformance::programs::{bank, program};
-use conformance::samples::{random_permutation, strip, Random};
+use conformance::samples::{any_swaps, random_permutation, strip, Random};
 use conformance::stack::bytes_used;
 use conformance::strips::LONGEST;
 use conformance::unit::lent;
@@ -14,9 +14,10 @@ use model::routing::valid_stage;
 use std::hint::black_box;
 use std::thread;
 use tigbayon::{
-    tb_butterfly, tb_decode, tb_gather, tb_group, tb_inverse, tb_operate, tb_pack, tb_read,
+    tb_butterfly, tb_butterfly_prepared, tb_decode, tb_gather, tb_group, tb_inverse,
+    tb_inverse_prepared, tb_operate, tb_pack, tb_prepare_butterfly, tb_prepare_inverse, tb_read,
     tb_route, tb_route_butterfly, tb_route_inverse, tb_run, tb_scatter, tb_unpack, tb_write,
-    TbCarried, TbGathered, TbPacked,
+    TbCarried, TbGathered, TbPacked, TbPrepared,
 };
 
 /// No call may use as many bytes.
@@ -45,13 +46,25 @@ impl Gauge {
 /// Measures a call once on each sort of input.
 type Measure = fn(&mut Gauge);
 
-const CALLS: [(&str, Measure); 16] = [
+const CALLS: [(&str, Measure); 20] = [
     ("(none)", |gauge| gauge.measure(|| ())),
     ("tb_gather", |gauge| masked(gauge, tb_gather)),
     ("tb_scatter", |gauge| masked(gauge, tb_scatter)),
     ("tb_group", |gauge| masked(gauge, tb_group)),
     ("tb_butterfly", |gauge| carried(gauge, tb_butterfly)),
     ("tb_inverse", |gauge| carried(gauge, tb_inverse)),
+    ("tb_prepare_butterfly", |gauge| {
+        prepared(gauge, tb_prepare_butterfly)
+    }),
+    ("tb_prepare_inverse", |gauge| {
+        prepared(gauge, tb_prepare_inverse)
+    }),
+    ("tb_butterfly_prepared", |gauge| {
+        passed(gauge, tb_butterfly_prepared)
+    }),
+    ("tb_inverse_prepared", |gauge| {
+        passed(gauge, tb_inverse_prepared)
+    }),
     ("tb_decode", |gauge| {
         let (handed, width) = widths(&mut gauge.random);
         let mask = word(&mut gauge.random, width);
@@ -101,6 +114,18 @@ fn carried(gauge: &mut Gauge, call: extern "C" fn(u32, &[u32; 6], u64) -> TbCarr
     gauge.measure(|| call(handed, &controls, word));
 }
 
+fn prepared(gauge: &mut Gauge, call: extern "C" fn(u32, &[u32; 6]) -> TbPrepared) {
+    let (handed, width) = widths(&mut gauge.random);
+    let controls = controls(&mut gauge.random, width);
+    gauge.measure(|| call(handed, &controls));
+}
+
+fn passed(gauge: &mut Gauge, call: extern "C" fn(&[u64; 6], u64) -> u64) {
+    let swaps = any_swaps(&mut gauge.random);
+    let word = word(&mut gauge.random, 64);
+    gauge.measure(|| call(&swaps, word));
+}
+
 fn routed<A>(gauge: &mut Gauge, call: impl Fn(u32, &[u8]) -> A) {
     for width in WIDTHS {
         let mut permutations: Vec<_> = FIXED.iter().map(|fixed| fixed(width)).collect();
@@ -137,10 +162,10 @@ fn deepest(measure: Measure) -> usize {
 
 #[test]
 fn each_call_uses_less_than_16_kib() {
-    println!("{:<20} {:>6}", "call", "bytes");
+    println!("{:<22} {:>6}", "call", "bytes");
     for (name, measure) in CALLS {
         let bytes = deepest(measure);
-        println!("{name:<20} {bytes:>6}");
+        println!("{name:<22} {bytes:>6}");
         assert!(bytes < LIMIT, "{name} uses {bytes} bytes of stack");
     }
 }

@@ -14,6 +14,8 @@ static void print_layouts(void)
            AT(TbGathered, word));
     printf("TbCarried %u: %u %u\n", SIZE(TbCarried), AT(TbCarried, refusal),
            AT(TbCarried, word));
+    printf("TbPrepared %u: %u %u\n", SIZE(TbPrepared), AT(TbPrepared, refusal),
+           AT(TbPrepared, swaps));
     printf("TbControls1 %u: %u %u\n", SIZE(TbControls1), AT(TbControls1, refusal),
            AT(TbControls1, stages));
     printf("TbControls2 %u: %u %u %u\n", SIZE(TbControls2), AT(TbControls2, refusal),
@@ -94,6 +96,31 @@ static void print_words(const uint64_t *words, int count)
         printf(" %" PRIx64, words[i]);
     }
     printf("\n");
+}
+
+static void print_swaps(const char *call, TbPrepared answer)
+{
+    printf("%s %u:", call, (unsigned)answer.refusal);
+    print_words(answer.swaps, 6);
+}
+
+static void print_prepared(TbControls2 decoded)
+{
+    const uint32_t zeros[6] = {0, 0, 0, 0, 0, 0};
+    const uint32_t unused[6] = {0x10, 0, 0, 0, 0, 0};
+    const uint64_t any[6] = {1, 1, 1, 1, 1, UINT64_MAX};
+    TbPrepared prepared = tb_prepare_butterfly(8, decoded.butterfly);
+
+    print_swaps("prepare_butterfly", prepared);
+    printf("butterfly_prepared %" PRIx64 "\n", tb_butterfly_prepared(prepared.swaps, 0x1A));
+    prepared = tb_prepare_inverse(8, decoded.inverse);
+    print_swaps("prepare_inverse", prepared);
+    printf("inverse_prepared %" PRIx64 "\n", tb_inverse_prepared(prepared.swaps, 0xB6 & 0xAD));
+    print_swaps("prepare_butterfly", tb_prepare_butterfly(64, zeros));
+    print_swaps("prepare_butterfly", tb_prepare_butterfly(12, unused));
+    print_swaps("prepare_inverse", tb_prepare_inverse(8, unused));
+    printf("butterfly_prepared %" PRIx64 "\n", tb_butterfly_prepared(any, 1));
+    printf("inverse_prepared %" PRIx64 "\n", tb_inverse_prepared(any, 1));
 }
 
 static void print_packed(const char *call, TbPacked answer, const uint64_t *out, int count)
@@ -204,6 +231,7 @@ int main(void)
     print_carried("inverse", tb_inverse(8, decoded.inverse, 0xB6 & 0xAD));
     print_carried("inverse", tb_inverse(12, decoded.inverse, 0xB6));
     print_routed();
+    print_prepared(decoded);
     print_strips();
     print_unit();
     return 0;
