@@ -155,24 +155,29 @@ fn mark_first(marks: &mut Marks, e: usize, b: usize, bit: usize) {
 }
 
 fn halve(entries: &mut Entries, marks: &Marks, at: usize, e: usize, b: usize) {
-    for q in 0..power(e) {
+    let half = power(e);
+    for q in 0..half {
         let swap = marks[at + q] % 2 == 0;
         let lower = half_entry(entries, e, b, q, swap);
         let upper = half_entry(entries, e, b, q, !swap);
         entries[2 * b + q] = lower;
-        entries[2 * b + q + power(e)] = upper;
+        entries[2 * b + q + half] = upper;
     }
 }
 
+/// Both entries are read, so that no branch hangs on the mark.
 fn half_entry(entries: &Entries, e: usize, b: usize, q: usize, upper: bool) -> u8 {
-    entries[2 * b + q + side(e, upper)] % (power(e) as u8)
+    let half = power(e);
+    let low = entries[2 * b + q];
+    let high = entries[2 * b + q + half];
+    pick(upper, high, low) % (half as u8)
 }
 
-fn side(e: usize, upper: bool) -> usize {
-    if upper {
-        power(e)
+fn pick(first: bool, x: u8, y: u8) -> u8 {
+    if first {
+        x
     } else {
-        0
+        y
     }
 }
 
