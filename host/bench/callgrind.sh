@@ -14,7 +14,7 @@ instructions() {
     valgrind --tool=callgrind --callgrind-out-file=/dev/null "$bench" count "$1" "$2" 2>&1 | awk '/Collected/ { print $NF }'
 }
 
-printf '%-16s %17s\n' call instructions/call
+printf '%-18s %17s\n' call instructions/call
 for call in $("$bench" count); do
-    printf '%-16s %17d\n' "$call" $((($(instructions "$call" "$calls") - $(instructions "$call" 0)) / calls))
+    printf '%-18s %17d\n' "$call" $((($(instructions "$call" "$calls") - $(instructions "$call" 0)) / calls))
 done

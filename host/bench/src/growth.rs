@@ -1,7 +1,7 @@
 //! Every call of the library on random inputs of several sizes.
 
 use crate::masks::OfMask;
-use crate::networks::{random_controls, Network};
+use crate::networks::{random_controls, Network, Passage, Prepare};
 use crate::packing::{Packing, PACK, UNPACK};
 use crate::routing::permutation_by;
 use crate::table::{print_heading, print_line};
@@ -11,9 +11,10 @@ use conformance::programs::{bank, program};
 use conformance::samples::{random_permutation, Random};
 use conformance::unit::lent;
 use std::hint::black_box;
-use tigbayon::{tb_butterfly, tb_decode, tb_gather, tb_group, tb_inverse, tb_operate, tb_read};
 use tigbayon::{
-    tb_route, tb_route_butterfly, tb_route_inverse, tb_run, tb_scatter, tb_write, TbBank,
+    tb_butterfly, tb_butterfly_prepared, tb_decode, tb_gather, tb_group, tb_inverse,
+    tb_inverse_prepared, tb_operate, tb_prepare_butterfly, tb_prepare_inverse, tb_read, tb_route,
+    tb_route_butterfly, tb_route_inverse, tb_run, tb_scatter, tb_write, TbBank,
 };
 
 /// Calls whose inputs have sizes of one sort.
@@ -44,6 +45,18 @@ pub const GROWTHS: [Growth; 4] = [
             ("group", |width| masked(width, tb_group)),
             ("butterfly", |width| carried(width, tb_butterfly)),
             ("inverse", |width| carried(width, tb_inverse)),
+            ("prepare_butterfly", |width| {
+                prepared(width, tb_prepare_butterfly)
+            }),
+            ("prepare_inverse", |width| {
+                prepared(width, tb_prepare_inverse)
+            }),
+            ("butterfly_prepared", |width| {
+                passed(width, tb_prepare_butterfly, tb_butterfly_prepared)
+            }),
+            ("inverse_prepared", |width| {
+                passed(width, tb_prepare_inverse, tb_inverse_prepared)
+            }),
             ("decode", |width| {
                 let width = width as u32;
                 let mask = |random: &mut Random| random.word() & low_ones(width);
@@ -161,6 +174,21 @@ fn carried(width: usize, call: Network) -> Calls {
     calls(1, make, move |(controls, word)| {
         call(width, controls, *word)
     })
+}
+
+fn prepared(width: usize, call: Prepare) -> Calls {
+    let width = width as u32;
+    let make = |random: &mut Random| random_controls(random, width);
+    calls(1, make, move |controls| call(width, controls))
+}
+
+fn passed(width: usize, prepare: Prepare, call: Passage) -> Calls {
+    let width = width as u32;
+    let make = |random: &mut Random| {
+        let word = random.word() & low_ones(width);
+        (prepare(width, &random_controls(random, width)).swaps, word)
+    };
+    calls(1, make, move |(swaps, word)| call(swaps, *word))
 }
 
 fn routed<A>(

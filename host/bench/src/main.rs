@@ -33,9 +33,11 @@ const WIDTH: u32 = 64;
 /// A contest runs the call of its name.
 type Bench = (&'static str, fn(&str));
 
-const CONTESTS: [Bench; 11] = [
+const CONTESTS: [Bench; 13] = [
     ("butterfly", networks::butterfly),
     ("inverse", networks::inverse),
+    ("butterfly_prepared", networks::butterfly_prepared),
+    ("inverse_prepared", networks::inverse_prepared),
     ("decode", networks::decode),
     ("gather", masks::gather),
     ("scatter", masks::scatter),

@@ -5,7 +5,8 @@ use crate::WIDTH;
 use conformance::controls::{stages, Controls};
 use conformance::low_ones;
 use conformance::samples::Random;
-use tigbayon::{tb_butterfly, tb_decode, tb_inverse, TbCarried, TbControls2};
+use tigbayon::{tb_butterfly, tb_butterfly_prepared, tb_decode, tb_inverse, tb_inverse_prepared};
+use tigbayon::{tb_prepare_butterfly, tb_prepare_inverse, TbCarried, TbControls2, TbPrepared};
 
 /// How many stages a network has.
 pub const STAGES: usize = 6;
@@ -23,6 +24,15 @@ const PAIRS: [u64; STAGES] = [
 /// One of both networks, as the library offers it.
 pub type Network = extern "C" fn(u32, &Controls, u64) -> TbCarried;
 
+/// The same, made ready.
+pub type Prepare = extern "C" fn(u32, &Controls) -> TbPrepared;
+
+/// A word sent through it then.
+pub type Passage = extern "C" fn(&[u64; STAGES], u64) -> u64;
+
+/// The peer that has nothing to do but the stages.
+const SPREAD_BEFORE: &str = "delta swaps, masks spread before";
+
 /// The butterfly beside delta swaps.
 pub fn butterfly(name: &str) {
     network::<false>(name, tb_butterfly);
@@ -31,6 +41,16 @@ pub fn butterfly(name: &str) {
 /// The inverse beside delta swaps.
 pub fn inverse(name: &str) {
     network::<true>(name, tb_inverse);
+}
+
+/// The butterfly, prepared before, beside delta swaps.
+pub fn butterfly_prepared(name: &str) {
+    prepared::<false>(name, tb_prepare_butterfly, tb_butterfly_prepared);
+}
+
+/// The inverse, prepared before, beside delta swaps.
+pub fn inverse_prepared(name: &str) {
+    prepared::<true>(name, tb_prepare_inverse, tb_inverse_prepared);
 }
 
 /// The decoder beside the same algorithm.
@@ -51,27 +71,47 @@ struct Journey {
     word: u64,
 }
 
-/// A network of rising distances (the inverse) or falling ones.
-fn network<const RISING: bool>(name: &str, library: Network) {
-    let journey = |random: &mut Random| {
+impl Journey {
+    /// Through a network of rising distances (the inverse) or falling ones.
+    fn random<const RISING: bool>(random: &mut Random) -> Self {
         let controls = random_controls(random, WIDTH);
         Journey {
             controls,
             swaps: swaps_of::<RISING>(&controls),
             word: random.word(),
         }
-    };
-    Contest::of(journey, move |journey| {
+    }
+
+    fn by_delta_swaps<const RISING: bool>(&self) -> u64 {
+        delta_swaps::<RISING>(&self.swaps, self.word)
+    }
+}
+
+fn network<const RISING: bool>(name: &str, library: Network) {
+    Contest::of(Journey::random::<RISING>, move |journey| {
         library(WIDTH, &journey.controls, journey.word).word
     })
-    .peer("delta swaps, masks spread before", |journey| {
-        delta_swaps::<RISING>(&journey.swaps, journey.word)
-    })
-    .within(1.1)
+    .peer(SPREAD_BEFORE, Journey::by_delta_swaps::<RISING>)
     .peer("delta swaps, spreading included", |journey| {
         let swaps = swaps_of::<RISING>(&journey.controls);
         delta_swaps::<RISING>(&swaps, journey.word)
     })
+    .within(1.1)
+    .print(name);
+}
+
+fn prepared<const RISING: bool>(name: &str, prepare: Prepare, library: Passage) {
+    let journey = |random: &mut Random| {
+        let journey = Journey::random::<RISING>(random);
+        let prepared = prepare(WIDTH, &journey.controls);
+        assert_eq!(prepared.swaps, journey.swaps, "the masks are the library's");
+        journey
+    };
+    Contest::of(journey, move |journey| {
+        library(&journey.swaps, journey.word)
+    })
+    .peer(SPREAD_BEFORE, Journey::by_delta_swaps::<RISING>)
+    .within(1.1)
     .print(name);
 }
 
@@ -93,12 +133,13 @@ pub fn log_distance<const RISING: bool>(stage: usize) -> usize {
     }
 }
 
-/// For each stage, ones at the lower bit of every pair that it swaps.
+/// For each distance 32, 16, .., 1, ones at the lower bit of every pair that its
+/// stage swaps.
 pub fn swaps_of<const RISING: bool>(stages: &[u32; STAGES]) -> [u64; STAGES] {
     let mut swaps = [0; STAGES];
-    for (i, swaps) in swaps.iter_mut().enumerate() {
+    for (i, &stage) in stages.iter().enumerate() {
         let log = log_distance::<RISING>(i);
-        *swaps = spread(log, stages[i]) ^ PAIRS[log];
+        swaps[STAGES - 1 - log] = spread(log, stage) ^ PAIRS[log];
     }
     swaps
 }
@@ -114,8 +155,9 @@ fn spread(log: usize, stage: u32) -> u64 {
 /// Exchanges the marked pairs, stage by stage.
 pub fn delta_swaps<const RISING: bool>(swaps: &[u64; STAGES], word: u64) -> u64 {
     (0..STAGES).fold(word, |word, i| {
-        let distance = 1 << log_distance::<RISING>(i);
-        let differ = (word ^ word >> distance) & swaps[i];
+        let log = log_distance::<RISING>(i);
+        let distance = 1 << log;
+        let differ = (word ^ word >> distance) & swaps[STAGES - 1 - log];
         word ^ differ ^ differ << distance
     })
 }
