@@ -119,8 +119,8 @@ TbCarried tb_inverse(uint32_t width, const uint32_t stages[6], uint64_t word);
  *
  * For either network swaps[i] is the stage of distance d = 32 >> i, the widest
  * first, with ones at the lower bits of the pairs that swap. At distances w and
- * above it is zero. Below that, every pair at bit w and above is marked too, its
- * control bit being unused and zero; no word of the width notices.
+ * above it is zero. At the others every pair at bit w and above is marked too,
+ * its control bit being unused and zero; no word of the width notices.
  */
 
 /* The answer of tb_prepare_butterfly and tb_prepare_inverse. */

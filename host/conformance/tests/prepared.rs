@@ -104,7 +104,7 @@ fn a_single_zero_marks_the_lower_bit_of_its_switch() {
     }
 }
 
-/// "At distances w and above it is zero. Below that, every pair at bit w and
+/// "At distances w and above it is zero. At the others every pair at bit w and
 /// above is marked too".
 #[test]
 fn marks_beyond_the_width() {

@@ -10,7 +10,7 @@ use std::iter::zip;
 /// that swap".
 pub type Swaps = [u64; 6];
 
-/// "For either network swaps[i] is the stage of distance d = 32 >> i, the
+/// "For either network `swaps[i]` is the stage of distance d = 32 >> i, the
 /// widest first"
 pub const DISTANCES: [usize; 6] = [32, 16, 8, 4, 2, 1];
 
@@ -39,7 +39,7 @@ pub fn prepare_inverse(width: u32, controls: &Controls) -> Answer<Swaps> {
     prepare(width, controls, inverse_distances)
 }
 
-/// "the word sent through the stages of swaps[0] to swaps[5]"
+/// "the word sent through the stages of `swaps[0]` to `swaps[5]`"
 ///
 /// ```
 /// // Bits 0 and 32, then 0 and 1.
@@ -49,7 +49,7 @@ pub fn butterfly_prepared(swaps: &Swaps, word: u64) -> u64 {
     through(zip(DISTANCES, *swaps), word)
 }
 
-/// "the same through the stages of swaps[5] to swaps[0]"
+/// "the same through the stages of `swaps[5]` to `swaps[0]`"
 ///
 /// ```
 /// // Bits 0 and 1, then 0 and 32.
@@ -102,7 +102,7 @@ fn through(stages: impl Iterator<Item = (usize, u64)>, word: u64) -> u64 {
 }
 
 /// "on any six words, at each distance d the word x becomes x ^ t ^ (t << d),
-/// where t is (x ^ (x >> d)) & swaps[i]": a marked bit that differs from the bit
+/// where t is (x ^ (x >> d)) & `swaps[i]`": a marked bit that differs from the bit
 /// d above it is turned over, and so is that one. Above bit 63 stand zeros.
 ///
 /// Where lower bits alone are marked, each such pair is exchanged.

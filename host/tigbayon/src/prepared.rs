@@ -72,7 +72,7 @@ impl PreparedButterfly {
     }
 
     /// For each of the distances 32, 16, .., 1, ones at the lower bits of the
-    /// pairs that swap. At distances w and above there are none; below that,
+    /// pairs that swap. At distances w and above there are none; at the others
     /// every pair at bit w and above is marked too.
     ///
     /// ```
