@@ -24,6 +24,13 @@ fn svg_goes_to_a_file_or_to_the_output() {
     assert_ne!(fs::read_to_string(&file).unwrap(), drawn);
 }
 
+/// The picture in the repository's README is the one that the command draws.
+#[test]
+fn the_picture_of_row_8() {
+    let drawn = prints(&[&SWAPPED[..], &["--svg", "-"]].concat());
+    assert_eq!(drawn, include_str!("../../../docs/row8.svg"));
+}
+
 #[test]
 fn a_file_that_cannot_be_written() {
     let file = folder("unwritten").join("missing").join("route.svg");
