@@ -1,11 +1,13 @@
 -- What the calls' answers come to, by the tests that the code makes. Assumes nothing.
 use mathlib.Core.Path.{_≡_, refl, sym, _∙_, ap, ap₂}
-use mathlib.Core.Bool.{Bool, true, false, not, _&&_}
+use mathlib.Core.Bool.{Bool, true, false, not, cond, _&&_}
 use mathlib.Core.List.{List, [], _∷_, reverse}
 use Prim.Native.Nat.{ℕ, suc, _+_, _-_, _*_, _%_, _^_, _<_, _≤_}
 use native.Mathlib.Omega.{arith}
+use native.Mathlib.Decide.{decLt}
 use native.Mathlib.Nat.{pow-succ', mod-eq-of-lt, one-mul, zero-add, add-zero}
 use native.Mathlib.Numerals.{add-one}
+use lib.Dec.{eqb}
 use lib.ListN.{length, getD, take, drop, replicate, drop-of-length-le}
 use Rattle.network.proofs.Routing.{length-decode}
 use lib.Pow.{pow-mono}
@@ -93,14 +95,19 @@ module _ (w : ℕ) (cs : List ℕ) (x : ℕ) where
       (omega (arith, l .2), rw q (rw (l .0) at (i .1)))
 
 module _ (f : ℕ → List ℕ → ℕ → ℕ) (w : ℕ) (k : Controls) (x : ℕ) {n : ℕ} (e : n ≡ carryRefusal w (k .stages) x) where
-  pub carry-refused : (n ≡ 0 → ⊥) → _≡_ {A = Carried} (record { refusal = n; word = 0 }) (carryAnswer f w k x)
-  unfolding carryAnswer
-  carry-refused z = rw (← e, ne-eqb n 0 z)
-
   pub carry-done : n ≡ 0 → {l y : ℕ} → l ≡ logOf w → y ≡ f l (k .stages) x
       → _≡_ {A = Carried} (record { refusal = 0; word = y }) (carryAnswer f w k x)
   unfolding carryAnswer
   carry-done z q y = rw (← e, eq-eqb n 0 z, y, q)
+
+  -- the refusal, and the word if there is none
+  pub carry-by : {y : ℕ} → y ≡ cond (eqb n 0) (f (logOf w) (k .stages) x) 0 → _≡_ {A = Carried} (record { refusal = n; word = y }) (carryAnswer f w k x)
+  unfolding carryAnswer
+  carry-by {y} g = by (decLt 0 n)
+    where
+      by : Dec (0 < n) → _≡_ {A = Carried} (record { refusal = n; word = y }) (carryAnswer f w k x)
+      by (yes h) = let z : n ≡ 0 → ⊥ = λ q. omega arith in rw (g, ← e, ne-eqb n 0 z)
+      by (no h) = let z : n ≡ 0 = omega arith in rw (g, ← e, z)
 
 -- a call that makes a network ready
 

@@ -3,11 +3,13 @@ ghost use mathlib.Core.Path.{_≡_};
 ghost use Prim.Native.Nat.{_+_, _-_, _*_, _^_, _≤_, _<_};
 ghost use mathlib.Core.Bool.{cond, true, false};
 ghost use mathlib.Core.List.{reverse};
+ghost use lib.Dec.{eqb};
 ghost use lib.ListN.{take};
 ghost use Rattle.bits.specs.Bit.{ofBits};
+ghost use Rattle.bits.specs.Refusal.{logOf};
 ghost use Rattle.network.specs.Stage.{falling, rising, butterflyOf, inverseOf};
 ghost use Rattle.network.specs.Word.{spreadOf, swapsOf, swapsAt, exchangeOf, exchangesOf, byIndex, travelOf};
-ghost use Rattle.network.specs.Decoder.{turned, controlAt, decodeOf};
+ghost use Rattle.network.specs.Decoder.{turned, controlAt, decodeOf, decodeInverseOf};
 ghost use Rattle.network.specs.Calls.{usedBits, controlsFit, carryRefusal, carryAnswer, prepareAnswer, six, decodeRefusal, decodeAnswer};
 
 // The control bits of one network: six stages in the direction of travel (paper 01: settings). One passes, zero swaps.
@@ -203,22 +205,15 @@ fn carry_refusal(width: u32, stages: [u32; 6], word: u64) -> u8
     bits::CARRIED_OUT
 }
 
-// A call on the inverse (rising) or on the butterfly.
-fn through(rising: bool, width: u32, controls: Controls, word: u64) -> Carried
-    ensures { λ r. ⌜ r ≡ carryAnswer (travelOf rising) width controls word ⌝ }
+// internal: the refusal of a call on the inverse (rising) or on the butterfly. Its word, 0 if it is refused.
+fn through(rising: bool, refused: u8, width: u32, stages: [u32; 6], word: u64) -> u64
+    requires { ⌜ refused ≡ carryRefusal width stages word ⌝ }
+    ensures { λ r. ⌜ r ≡ cond (eqb refused 0) (travelOf rising (logOf width) stages word) 0 ⌝ }
 {
-    let stages = controls.stages;
-    let refused = carry_refusal(width, stages, word);
     if refused != 0 {
-        return Carried {
-            refusal: refused,
-            word: 0,
-        };
+        return 0;
     }
-    Carried {
-        refusal: 0,
-        word: carry(rising, bits::log_of(width) as usize, stages, word),
-    }
+    carry(rising, bits::log_of(width) as usize, stages, word)
 }
 
 // internal: the word through the butterfly at width 64, where every control bit is used and every word fits
@@ -239,28 +234,36 @@ pub fn inverse_64(stages: [u32; 6], word: u64) -> u64
 pub fn butterfly(width: u32, controls: Controls, word: u64) -> Carried
     ensures { λ r. ⌜ r ≡ carryAnswer butterflyOf width controls word ⌝ }
 {
+    let stages = controls.stages;
     if width == 64 {
-        let stages = controls.stages;
         return Carried {
             refusal: 0,
             word: butterfly_64(stages, word),
         };
     }
-    through(false, width, controls, word)
+    let refusal = carry_refusal(width, stages, word);
+    Carried {
+        refusal,
+        word: through(false, refusal, width, stages, word),
+    }
 }
 
 // The word through the inverse butterfly: distances 1, 2, .., w/2.
 pub fn inverse(width: u32, controls: Controls, word: u64) -> Carried
     ensures { λ r. ⌜ r ≡ carryAnswer inverseOf width controls word ⌝ }
 {
+    let stages = controls.stages;
     if width == 64 {
-        let stages = controls.stages;
         return Carried {
             refusal: 0,
             word: inverse_64(stages, word),
         };
     }
-    through(true, width, controls, word)
+    let refusal = carry_refusal(width, stages, word);
+    Carried {
+        refusal,
+        word: through(true, refusal, width, stages, word),
+    }
 }
 
 // The controls of the inverse (rising) or of the butterfly made ready.
@@ -344,6 +347,20 @@ fn reversed(log: usize, stages: [u32; 6]) -> [u32; 6]
         at += 1;
     }
     out
+}
+
+// internal: the butterfly's controls for a mask at width 64
+pub fn decode_64(mask: u64) -> [u32; 6]
+    ensures { λ r. ⌜ r ≡ decodeOf 6 mask ⌝ }
+{
+    decode_stages(6, mask)
+}
+
+// internal: the inverse's controls for a mask at width 64
+pub fn decode_inverse_64(mask: u64) -> [u32; 6]
+    ensures { λ r. ⌜ r ≡ decodeInverseOf 6 mask ⌝ }
+{
+    reversed(6, decode_64(mask))
 }
 
 // The lowest refusal of a call of the decoder; 0 if it is carried out.

@@ -19,23 +19,6 @@ use Rattle.network.proofs.Six.{carry-fall, carry-rise}
 use Rattle.pack.specs.Cursor.{routesOf}
 
 module _ (m : ℕ) (h : m < 2 ^ 64) where
-  -- six stages fill the controls
-  six-stages : six (decodeOf 6 m) ≡ decodeOf 6 m
-  six-stages =
-      let z : 6 - length (decodeOf 6 m) ≡ 0 = omega (arith, length-decode 6 m) in
-      ap (λ (n : ℕ). decodeOf 6 m ++ replicate n 0) z ∙ append-nil (decodeOf 6 m)
-
-  decoded-stages : decodeAnswer 64 m .butterfly .stages ≡ decodeOf 6 m
-  decoded-stages =
-      ap (λ (d : Decoded). d .butterfly .stages)
-      (sym (decode-done 64 m (sym (decode-refusal-by 64 m refl (lt-ltb m (2 ^ 64) h))) refl {l = 6} refl refl refl))
-      ∙ six-stages
-
-  -- what the code prepares
-  pub routes-prepared : {d : Decoded} {ws : List ℕ} → d ≡ decodeAnswer 64 m → ws ≡ swapsAt (falling 6) (d .butterfly .stages) → ws ≡ routesOf m
-  unfolding routesOf
-  routes-prepared e p = p ∙ ap (swapsAt (falling 6)) (ap (λ (d : Decoded). d .butterfly .stages) e ∙ decoded-stages)
-
   module _ {ws : List ℕ} (e : ws ≡ routesOf m) (x : ℕ) where
     pub rise-gathers : exchangesOf (rising 6) (reverse ws) (bitAnd x m) ≡ gatherOf 64 m x
     unfolding routesOf decodeInverseOf travelOf inverseOf

@@ -101,9 +101,7 @@ impl Cursor {
 fn routes(mask: u64) -> [u64; 6]
     ensures { λ r. ⌜ r ≡ routesOf mask ⌝ }
 {
-    let controls = network::decode(64, mask).butterfly;
-    let stages = controls.stages;
-    network::prepare(stages)
+    network::prepare(network::decode_64(mask))
 }
 
 // internal: the routes of the mask. Gather through the inverse butterfly.

@@ -17,17 +17,3 @@ pub by-mask-64 : (f : ℕ → ℕ → ℕ → ℕ) (m x : ℕ) → m < 2 ^ 64 �
 by-mask-64 f m x h l e =
     ap (λ (a : Gathered). a .word)
     (e ∙ sym (carried-out 64 m x f (sym (refusal-by 64 m x refl (lt-ltb x (2 ^ 64) l) (lt-ltb m (2 ^ 64) h))) refl refl))
-
-module _ (m : ℕ) (h : m < 2 ^ 64) {r : Decoded} (e : r ≡ decodeAnswer 64 m) where
-  decoded-is : decodeAnswer 64 m ≡ record { refusal = 0; butterfly = record { stages = six (decodeOf 6 m) }; inverse = record { stages = six (decodeInverseOf 6 m) } }
-  unfolding decodeAnswer
-  decoded-is = rw (decode-refusal-by 64 m refl (lt-ltb m (2 ^ 64) h))
-
-  pub decoded-64 : r .butterfly .stages ≡ decodeOf 6 m
-  decoded-64 = ap (λ (d : Decoded). d .butterfly .stages) (e ∙ decoded-is) ∙ six-whole (decodeOf 6 m) (length-decode 6 m)
-
-  pub decoded-inverse-64 : r .inverse .stages ≡ decodeInverseOf 6 m
-  unfolding decodeInverseOf
-  decoded-inverse-64 =
-      ap (λ (d : Decoded). d .inverse .stages) (e ∙ decoded-is)
-      ∙ six-whole (decodeInverseOf 6 m) (length-reverse (decodeOf 6 m) ∙ length-decode 6 m)

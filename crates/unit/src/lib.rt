@@ -129,11 +129,10 @@ fn stages_of(registers: [u64; 3]) -> [u32; 6]
     ]
 }
 
-// The triple of registers that holds the controls.
-fn packed(controls: network::Controls) -> [u64; 3]
-    ensures { λ r. ⌜ r ≡ packedOf (controls .stages) ⌝ }
+// The triple of registers that holds the stages.
+fn packed(stages: [u32; 6]) -> [u64; 3]
+    ensures { λ r. ⌜ r ≡ packedOf stages ⌝ }
 {
-    let stages = controls.stages;
     [
         joined(stages[0], stages[1]),
         joined(stages[2], stages[3]),
@@ -159,14 +158,14 @@ fn inverse_at(registers: [u64; 3], word: u64) -> u64
 fn decoded(mask: u64) -> [u64; 3]
     ensures { λ r. ⌜ r ≡ packedOf (decodeOf 6 mask) ⌝ }
 {
-    packed(network::decode(64, mask).butterfly)
+    packed(network::decode_64(mask))
 }
 
 // The inverse's controls for a mask, in a triple of registers.
 fn decoded_inverse(mask: u64) -> [u64; 3]
     ensures { λ r. ⌜ r ≡ packedOf (decodeInverseOf 6 mask) ⌝ }
 {
-    packed(network::decode(64, mask).inverse)
+    packed(network::decode_inverse_64(mask))
 }
 
 // The word gathered, scattered and grouped at width 64.

@@ -37,7 +37,7 @@ joined-requires-3 c κs = search needs
 returns : tie.Need-returns
 returns c =
     let b = c .before .before in
-    packed-are (b .before .before .args .controls .stages) (search needs) (b .joined .ensures) (c .before .joined2 .ensures) (c .joined3 .ensures)
+    packed-are (b .before .args .t1) (search needs) (b .joined .ensures) (c .before .joined2 .ensures) (c .joined3 .ensures)
 
 pub packed-spec : {M : Type 1} → statement M
 packed-spec =
