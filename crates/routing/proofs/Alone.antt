@@ -189,34 +189,33 @@ unfolding inverseControls
 inverse-forced n π ρ perm c brings =
     butterfly-forced n ρ π (permutes-back perm) c (inverse-butterfly-brings n π ρ perm c brings)
 
-both : (a b : Bool) → a && b ≡ true → (a ≡ true) × (b ≡ true)
-both true b e = (refl, e)
-both false b e = (e, absurd (false≢true e))
-
-every-below : (k : ℕ) (t : ℕ → Bool) → everyBelow k t ≡ true → (p : ℕ) → p < k → t p ≡ true
+-- a test of every number below k against its law
+pub tested-equal : (k : ℕ) (f g : ℕ → ℕ) → everyBelow k (λ p. eqb (f p) (g p)) ≡ true → (p : ℕ) → p < k → f p ≡ g p
 unfolding everyBelow
-every-below zero t e p l = absurd (omega arith)
-every-below (suc k) t e p l =
-    let b = both (t k) (everyBelow k t) e in
-    go (decLt p k) (b .0) (every-below k t (b .1) p)
+tested-equal zero f g e p l = absurd (omega arith)
+tested-equal (suc k) f g e p l =
+    let b = both (eqb (f k) (g k)) (everyBelow k (λ p. eqb (f p) (g p))) e in
+    go (decLt p k) (eqb-true (f k) (g k) (b .0)) (tested-equal k f g (b .1) p)
   where
-    go : Dec (p < k) → t k ≡ true → (p < k → t p ≡ true) → t p ≡ true
-    go (yes h) e ih = ih h
-    go (no g) e ih = let q : p ≡ k = omega arith in ap t q ∙ e
+    both : (a b : Bool) → a && b ≡ true → (a ≡ true) × (b ≡ true)
+    both true b e = (refl, e)
+    both false b e = (e, absurd (false≢true e))
 
-below-every : (k : ℕ) (t : ℕ → Bool) → ((p : ℕ) → p < k → t p ≡ true) → everyBelow k t ≡ true
+    go : Dec (p < k) → f k ≡ g k → (p < k → f p ≡ g p) → f p ≡ g p
+    go (yes h) e ih = ih h
+    go (no n) e ih = let q : p ≡ k = omega arith in ap f q ∙ e ∙ ap g (sym q)
+
+pub equal-tested : (k : ℕ) (f g : ℕ → ℕ) → ((p : ℕ) → p < k → f p ≡ g p) → everyBelow k (λ p. eqb (f p) (g p)) ≡ true
 unfolding everyBelow
-below-every zero t all = refl
-below-every (suc k) t all =
-    ap (λ (b : Bool). b && everyBelow k t) (all k (omega arith))
-    ∙ below-every k t (λ p l. all p (omega arith))
+equal-tested zero f g all = refl
+equal-tested (suc k) f g all =
+    ap (λ (b : Bool). b && everyBelow k (λ p. eqb (f p) (g p))) (eq-eqb (f k) (g k) (all k (omega arith)))
+    ∙ equal-tested k f g (λ p l. all p (omega arith))
 
 -- the tests: passed, the forced controls bring the permutation; failed, none do
 pub butterfly-sound : (n : ℕ) (π ρ : ℕ → ℕ) → butterflyTest n π ρ ≡ true → ButterflyBrings n (butterflyControls n π ρ) π
 unfolding butterflyTest
-butterfly-sound n π ρ e p l =
-    eqb-true (butterfly n (butterflyControls n π ρ) p) (π p)
-    (every-below (2 ^ n) (λ p. eqb (butterfly n (butterflyControls n π ρ) p) (π p)) e p l)
+butterfly-sound n π ρ = tested-equal (2 ^ n) (butterfly n (butterflyControls n π ρ)) π
 
 pub butterfly-complete :
     (n : ℕ) (π ρ : ℕ → ℕ)
@@ -226,16 +225,12 @@ pub butterfly-complete :
     → butterflyTest n π ρ ≡ true
 unfolding butterflyTest
 butterfly-complete n π ρ perm c brings =
-    below-every (2 ^ n) (λ p. eqb (butterfly n (butterflyControls n π ρ) p) (π p))
-    (λ p l.
-    eq-eqb (butterfly n (butterflyControls n π ρ) p) (π p)
-    (sym (butterfly-cong n c p l (butterflyControls n π ρ) (butterfly-forced n π ρ perm c brings)) ∙ brings p l))
+    equal-tested (2 ^ n) (butterfly n (butterflyControls n π ρ)) π
+    (λ p l. sym (butterfly-cong n c p l (butterflyControls n π ρ) (butterfly-forced n π ρ perm c brings)) ∙ brings p l)
 
 pub inverse-sound : (n : ℕ) (π ρ : ℕ → ℕ) → inverseTest n π ρ ≡ true → InverseBrings n (inverseControls n π ρ) π
 unfolding inverseTest
-inverse-sound n π ρ e p l =
-    eqb-true (inverse n (inverseControls n π ρ) p) (π p)
-    (every-below (2 ^ n) (λ p. eqb (inverse n (inverseControls n π ρ) p) (π p)) e p l)
+inverse-sound n π ρ = tested-equal (2 ^ n) (inverse n (inverseControls n π ρ)) π
 
 pub inverse-complete :
     (n : ℕ) (π ρ : ℕ → ℕ)
@@ -245,7 +240,5 @@ pub inverse-complete :
     → inverseTest n π ρ ≡ true
 unfolding inverseTest
 inverse-complete n π ρ perm c brings =
-    below-every (2 ^ n) (λ p. eqb (inverse n (inverseControls n π ρ) p) (π p))
-    (λ p l.
-    eq-eqb (inverse n (inverseControls n π ρ) p) (π p)
-    (sym (inverse-cong n c p l (inverseControls n π ρ) (inverse-forced n π ρ perm c brings)) ∙ brings p l))
+    equal-tested (2 ^ n) (inverse n (inverseControls n π ρ)) π
+    (λ p l. sym (inverse-cong n c p l (inverseControls n π ρ) (inverse-forced n π ρ perm c brings)) ∙ brings p l)
