@@ -1,164 +1,212 @@
--- One network alone: the stages that the routes ask for realise the permutation exactly if any do, and then they are those of its definition.
+-- One network alone: routes agree exactly if the permutation fits, and then their stages are those of its definition.
 -- Assumes nothing.
 use mathlib.Core.Path.{_≡_, refl, sym, ap, ap₂, _∙_}
 use mathlib.Core.Bool.{Bool, true, false, cond, _&&_, false≢true}
-use mathlib.Core.List.{List, []}
-use Prim.Native.Nat.{ℕ, zero, suc, _+_, _^_, _<_}
-use native.Mathlib.Decide.{decLt}
+use mathlib.Core.List.{List, [], _∷_}
+use Prim.Native.Nat.{ℕ, zero, suc, _+_, _/_, _^_, _≤_, _<_}
 use native.Mathlib.Numerals.{add-one}
 use native.Mathlib.Omega.{arith}
-use borrow.Author.Tests.{eqb-true, eq-eqb, ne-eqb}
+use lib.Bits.{bitAnd}
+use lib.Dec.{eqb}
+use lib.ListN.{length, getD}
+use lib.Pow.{pow-mono}
+use borrow.Author.Tests.{eq-eqb}
 use Rattle.network.specs.Calls.{six}
-use Rattle.routing.specs.Stages.{butterfly, inverse}
 use Rattle.routing.specs.Alone.{everyBelow}
+use Rattle.routing.specs.Stages.{butterfly, inverse}
 use Rattle.routing.specs.Lists.{entry, ListPermutes, butterflyFrom, inverseFrom, butterflyAlone, inverseAlone}
-use Rattle.routing.proofs.Flat.{butterfly-inverse, inverse-butterfly, butterfly-cong}
+use Rattle.routing.proofs.Flat.{butterfly-inverse, inverse-butterfly}
+use Rattle.routing.proofs.Alone.{tested-equal, equal-tested}
 use Rattle.routing.proofs.AloneWords.{butterfly-brings, inverse-brings, butterfly-only, inverse-only}
-use Rattle.alone.specs.Asked.{placeOf, sourceOf, askedOf, follows, realises, stagesOf, controlsFrom}
+use Rattle.alone.specs.declared.Found.{Found}
+use Rattle.alone.specs.Asked.{unasked, askedWord, Within, Every, stageAt, both, agree, stagesOf}
 use Rattle.alone.specs.Calls.{fits, alone, Answers}
-use Rattle.alone.proofs.Asked.{Routed, asked-routed}
-use Rattle.alone.proofs.Words.{six-same}
-use Rattle.alone.proofs.Steps.{place-lt}
+use Rattle.alone.proofs.Asking.{Routed, Free, asked-only, routed-free, free-routed}
+use Rattle.alone.proofs.Words.{apart-words, words-apart}
+use Rattle.alone.proofs.Steps.{crossed-lt}
 
--- a test of every number below k
-pub below-fails : (k : ℕ) (t : ℕ → Bool) (p : ℕ) → p < k → t p ≡ false → everyBelow k t ≡ false
-unfolding everyBelow
-below-fails zero t p l e = absurd (omega arith)
-below-fails (suc k) t p l e = go (decLt p k) (t k) refl (below-fails k t p)
-  where
-    go : Dec (p < k) → (b : Bool) → t k ≡ b → (p < k → t p ≡ false → everyBelow k t ≡ false) → b && everyBelow k t ≡ false
-    go d false q ih = refl
-    go (yes h) true q ih = ih h e
-    go (no g) true q ih = let r : p ≡ k = omega arith in absurd (false≢true (sym e ∙ ap t r ∙ q))
+stage-lt : (rising : Bool) (n i : ℕ) → i < n → stageAt rising n i < n
+stage-lt true n i l = l
+stage-lt false n i l = omega arith
 
-below-every : (k : ℕ) (t : ℕ → Bool) → ((p : ℕ) → p < k → t p ≡ true) → everyBelow k t ≡ true
-unfolding everyBelow
-below-every zero t all = refl
-below-every (suc k) t all =
-    ap (λ (b : Bool). b && everyBelow k t) (all k (omega arith)) ∙ below-every k t (λ p l. all p (omega arith))
+stage-back : (rising : Bool) (n e : ℕ) → e < n → stageAt rising n (stageAt rising n e) ≡ e
+stage-back true n e l = refl
+stage-back false n e l = omega arith
 
-every-below : (k : ℕ) (t : ℕ → Bool) → everyBelow k t ≡ true → (p : ℕ) → p < k → t p ≡ true
-every-below k t e p l = go (t p) refl
-  where
-    go : (b : Bool) → t p ≡ b → b ≡ true
-    go true q = refl
-    go false q = absurd (false≢true (sym (below-fails k t p l q) ∙ e))
+-- the code's test of the stages
+module _ (rising : Bool) (n : ℕ) (places sources : List ℕ) where
+  -- the answer by the tests made, at a stage of what the routes ask
+  module _
+      (i : ℕ)
+      {e x y : ℕ}
+      (q : e ≡ stageAt rising n i)
+      (f : x ≡ askedWord true n places sources e)
+      (g : y ≡ askedWord false n places sources e)
+    where
+      met : bitAnd x y ≡ both rising n places sources i
+      met = rw (f, g, q)
 
-pub below-turn : (k : ℕ) (t : ℕ → Bool) → everyBelow k t ≡ true → t k ≡ true → everyBelow (k + 1) t ≡ true
-unfolding everyBelow
-below-turn k t e q = rw add-one (ap₂ _&&_ q e)
+      pub met-turn :
+          everyBelow i (λ j. eqb (both rising n places sources j) 0) ≡ true
+          → bitAnd x y ≡ 0
+          → everyBelow (i + 1) (λ j. eqb (both rising n places sources j) 0) ≡ true
+      unfolding everyBelow
+      met-turn t z = rw add-one (ap₂ _&&_ (eq-eqb (both rising n places sources i) 0 (sym met ∙ z)) t)
 
--- the code's test of route p
+      pub met-none :
+          (stages : List ℕ)
+          → i < n
+          → (bitAnd x y ≡ 0 → ⊥)
+          → Answers (agree rising n places sources) stages (record { realised = false; stages = six [] })
+      unfolding agree
+      met-none stages l z = go (agree rising n places sources) refl
+        where
+          go :
+              (b : Bool)
+              → agree rising n places sources ≡ b
+              → Answers b stages (record { realised = false; stages = six [] })
+          go true t = absurd (z (met ∙ tested-equal n (both rising n places sources) (λ j. 0) t i l))
+          go false t = (refl, refl)
+
+  pub met-all :
+      {i : ℕ} {out : List ℕ} (stages : List ℕ)
+      → i ≡ n
+      → everyBelow i (λ j. eqb (both rising n places sources j) 0) ≡ true
+      → out ≡ six stages
+      → Answers (agree rising n places sources) stages (record { realised = true; stages = out })
+  unfolding agree
+  met-all stages q t f =
+      let a : agree rising n places sources ≡ true =
+      ap (λ (k : ℕ). everyBelow k (λ j. eqb (both rising n places sources j) 0)) (sym q) ∙ t
+      in
+      (sym a, rw a f)
+
+  agree-free : Within (2 ^ n) places → agree rising n places sources ≡ true → (e : ℕ) → e < n → Free places sources (2 ^ n) e
+  unfolding agree
+  agree-free is t e l s u v =
+      let i = stageAt rising n e in
+      let small : s < 2 ^ n / 2 = asked-only true places sources e (λ s. s < 2 ^ n / 2) (2 ^ n)
+      (λ p m q. crossed-lt n e (entry places p) (entry sources p) l (is .small p m)) s u
+      in
+      let apart = tested-equal n (both rising n places sources) (λ i. 0) t i (stage-lt rising n e l) in
+      let back = stage-back rising n e l in
+      words-apart (2 ^ n / 2) (unasked true places sources (2 ^ n) (stageAt rising n i)) (unasked false places sources (2 ^ n) (stageAt rising n i))
+      apart s small
+      (ap (λ (d : ℕ). unasked true places sources (2 ^ n) d s) back ∙ u)
+      (ap (λ (d : ℕ). unasked false places sources (2 ^ n) d s) back ∙ v)
+
+  free-agree : ((e : ℕ) → e < n → Free places sources (2 ^ n) e) → agree rising n places sources ≡ true
+  unfolding agree
+  free-agree free =
+      equal-tested n (both rising n places sources) (λ i. 0)
+      (λ i l.
+      let e = stageAt rising n i in
+      apart-words (2 ^ n / 2) (unasked true places sources (2 ^ n) e) (unasked false places sources (2 ^ n) e)
+      (λ s m. free e (stage-lt rising n i l) s))
+
+-- Route p of a permutation: entry p comes to place p. The inverse (rising) undoes the butterfly of the same controls, so there bit p comes
+-- to the place that entry p names.
+abbrev Linked : Bool → ℕ → List ℕ → List ℕ → List ℕ → Type 0
+Linked rising n entries places sources =
+    (p : ℕ) → p < 2 ^ n → (entry places p ≡ cond rising (entry entries p) p) × (entry sources p ≡ cond rising p (entry entries p))
+
 module _
     (rising : Bool)
     (n : ℕ)
-    (entries : List ℕ)
-    (c : ℕ → ℕ → Bool)
-    (p : ℕ)
-    {a b x : ℕ}
-    (qa : a ≡ placeOf rising entries p)
-    (qx : x ≡ butterfly n c a)
-    (qb : b ≡ sourceOf rising entries p)
+    (entries places sources : List ℕ)
+    (is : ListPermutes (2 ^ n) entries)
+    (linked : Linked rising n entries places sources)
   where
-    came : x ≡ butterfly n c (placeOf rising entries p)
-    came = qx ∙ ap (butterfly n c) qa
-
-    pub follows-yes : x ≡ b → follows rising n entries c p ≡ true
-    follows-yes e = eq-eqb (butterfly n c (placeOf rising entries p)) (sourceOf rising entries p) (sym came ∙ e ∙ qb)
-
-    pub follows-no : (x ≡ b → ⊥) → follows rising n entries c p ≡ false
-    follows-no e =
-        ne-eqb (butterfly n c (placeOf rising entries p)) (sourceOf rising entries p) (λ q. e (came ∙ q ∙ sym qb))
-
-module _ (rising : Bool) (n : ℕ) (entries : List ℕ) (is : ListPermutes (2 ^ n) entries) where
-  -- the test says whether each route comes from its source
-  realises-routed : (c : ℕ → ℕ → Bool) → realises rising n entries c ≡ true → Routed rising entries (2 ^ n) n c
-  unfolding realises
-  realises-routed c e p l =
-      eqb-true (butterfly n c (placeOf rising entries p)) (sourceOf rising entries p)
-      (every-below (2 ^ n) (follows rising n entries c) e p l)
-
-  routed-realises : (c : ℕ → ℕ → Bool) → Routed rising entries (2 ^ n) n c → realises rising n entries c ≡ true
-  unfolding realises
-  routed-realises c routed =
-      below-every (2 ^ n) (follows rising n entries c)
-      (λ p l. eq-eqb (butterfly n c (placeOf rising entries p)) (sourceOf rising entries p) (routed p l))
-
-  -- controls that lead each bit along its route are those of the definition
-  routed-only :
-      (c : ℕ → ℕ → Bool)
-      → Routed rising entries (2 ^ n) n c
-      → (fits rising n entries ≡ true) × (stagesOf rising n c ≡ alone rising n entries)
-  unfolding placeOf sourceOf stagesOf
-  routed-only c routed = go rising routed
-    where
-      go : (b : Bool) → Routed b entries (2 ^ n) n c → (fits b n entries ≡ true) × (stagesOf b n c ≡ alone b n entries)
-      go true r =
-          inverse-only n entries is c
-          (λ p l. ap (inverse n c) (sym (r p l)) ∙ inverse-butterfly n c (entry entries p) (is .small p l))
-      go false r = butterfly-only n entries is c r
-
-  -- and the definition has such controls if the permutation fits
-  abbrev defined : Bool → ℕ → ℕ → Bool
-  defined b = cond b (inverseFrom (inverseAlone n entries)) (butterflyFrom n (butterflyAlone n entries))
-
-  fits-routed : fits rising n entries ≡ true → Routed rising entries (2 ^ n) n (defined rising)
-  unfolding placeOf sourceOf
-  fits-routed = go rising
-    where
-      go : (b : Bool) → fits b n entries ≡ true → Routed b entries (2 ^ n) n (defined b)
-      go true e p l =
-          ap (butterfly n (defined true)) (sym (inverse-brings n entries is e p l)) ∙ butterfly-inverse n (defined true) p l
-      go false e p l = butterfly-brings n entries is e p l
-
-  -- the controls that the routes ask for, as six stages
-  abbrev wanted : ℕ → ℕ → Bool
-  wanted = askedOf rising entries (2 ^ n)
-
-  abbrev found : List ℕ → Bool
-  found stages = realises rising n entries (controlsFrom rising n stages)
-
-  same-place :
-      (p : ℕ)
-      → p < 2 ^ n
-      → butterfly n wanted (placeOf rising entries p)
-      ≡ butterfly n (controlsFrom rising n (six (stagesOf rising n wanted))) (placeOf rising entries p)
-  same-place p l =
-      butterfly-cong n wanted (placeOf rising entries p) (place-lt rising n entries is p l)
-      (controlsFrom rising n (six (stagesOf rising n wanted))) (six-same rising n wanted)
-
-  found-complete : fits rising n entries ≡ true → found (six (stagesOf rising n wanted)) ≡ true
-  found-complete e =
-      routed-realises (controlsFrom rising n (six (stagesOf rising n wanted)))
-      (λ p l. sym (same-place p l) ∙ asked-routed rising entries (2 ^ n) n (defined rising) (fits-routed e) p l)
-
-  found-sound :
-      found (six (stagesOf rising n wanted)) ≡ true
-      → (fits rising n entries ≡ true) × (stagesOf rising n wanted ≡ alone rising n entries)
-  found-sound e =
-      routed-only wanted
-      (λ p l. same-place p l ∙ realises-routed (controlsFrom rising n (six (stagesOf rising n wanted))) e p l)
-
-  -- the answer by the test made
-  module _ {stages : List ℕ} {r : Bool} (q : stages ≡ six (stagesOf rising n wanted)) (f : r ≡ found stages) where
-    test : r ≡ found (six (stagesOf rising n wanted))
-    test = f ∙ ap found q
-
-    pub answer-found :
-        r ≡ true
-        → Answers (fits rising n entries) (alone rising n entries) (record { realised = true; stages = stages })
-    answer-found t =
-        let s = found-sound (sym test ∙ t) in
-        (sym (s .0), q ∙ rw (s .0, s .1))
-
-    pub answer-none :
-        r ≡ false
-        → Answers (fits rising n entries) (alone rising n entries) (record { realised = false; stages = six [] })
-    answer-none t = go (fits rising n entries) refl
+    -- controls that lead each bit along its route are those of the definition
+    routed-only :
+        (c : ℕ → ℕ → Bool)
+        → Routed places sources (2 ^ n) n c
+        → (fits rising n entries ≡ true) × (stagesOf rising n c ≡ alone rising n entries)
+    unfolding stagesOf
+    routed-only c routed = go rising linked
       where
         go :
             (b : Bool)
-            → fits rising n entries ≡ b
-            → Answers b (alone rising n entries) (record { realised = false; stages = six [] })
-        go true e = absurd (false≢true (sym t ∙ test ∙ found-complete e))
-        go false e = (refl, refl)
+            → Linked b n entries places sources
+            → (fits b n entries ≡ true) × (stagesOf b n c ≡ alone b n entries)
+        go true k =
+            inverse-only n entries is c
+            (λ p l.
+            ap (inverse n c) (sym (k p l .1) ∙ sym (routed p l) ∙ ap (butterfly n c) (k p l .0))
+            ∙ inverse-butterfly n c (entry entries p) (is .small p l))
+        go false k =
+            butterfly-only n entries is c (λ p l. ap (butterfly n c) (sym (k p l .0)) ∙ routed p l ∙ k p l .1)
+
+    -- and the definition has such controls if the permutation fits
+    abbrev defined : Bool → ℕ → ℕ → Bool
+    defined b = cond b (inverseFrom (inverseAlone n entries)) (butterflyFrom n (butterflyAlone n entries))
+
+    fits-routed : fits rising n entries ≡ true → Routed places sources (2 ^ n) n (defined rising)
+    fits-routed = go rising linked
+      where
+        go :
+            (b : Bool)
+            → Linked b n entries places sources
+            → fits b n entries ≡ true
+            → Routed places sources (2 ^ n) n (defined b)
+        go true k e p l =
+            ap (butterfly n (defined true)) (k p l .0 ∙ sym (inverse-brings n entries is e p l))
+            ∙ butterfly-inverse n (defined true) p l
+            ∙ sym (k p l .1)
+        go false k e p l =
+            ap (butterfly n (defined false)) (k p l .0) ∙ butterfly-brings n entries is e p l ∙ sym (k p l .1)
+
+    pub answer :
+        {r : Found}
+        → Within (2 ^ n) places
+        → Within (2 ^ n) sources
+        → Answers (agree rising n places sources) (stagesOf rising n (unasked true places sources (2 ^ n))) r
+        → Answers (fits rising n entries) (alone rising n entries) r
+    answer {r} u v f = go (agree rising n places sources) refl f
+      where
+        none : fits rising n entries ≡ true → agree rising n places sources ≡ true
+        none e =
+            free-agree rising n places sources
+            (routed-free places sources (2 ^ n) n (defined rising) (fits-routed e))
+
+        turned-back : (d : Bool) → fits rising n entries ≡ d → agree rising n places sources ≡ false → d ≡ false
+        turned-back true e t = absurd (false≢true (sym t ∙ none e))
+        turned-back false e t = refl
+
+        go :
+            (b : Bool)
+            → agree rising n places sources ≡ b
+            → Answers b (stagesOf rising n (unasked true places sources (2 ^ n))) r
+            → Answers (fits rising n entries) (alone rising n entries) r
+        go true t f =
+            let s = routed-only (unasked true places sources (2 ^ n))
+            (free-routed places sources n u v (agree-free rising n places sources u t))
+            in
+            rw (s .0, ← (s .1)) f
+        go false t f = rw (turned-back (fits rising n entries) refl t) f
+
+module _ (n : ℕ) (h : n ≤ 6) (entries every : List ℕ) (is : ListPermutes (2 ^ n) entries) (all : Every every) where
+  at-place : (p : ℕ) → p < 2 ^ n → entry every p ≡ p
+  at-place p l = all .1 p (omega (arith, pow-mono h))
+
+  pub every-within : Within (2 ^ n) every
+  every-within = record { long = omega (arith, pow-mono h, all .0); small = λ p l. omega (arith, at-place p l) }
+
+  pub entries-within : Within (2 ^ n) entries
+  entries-within = record { long = omega (arith, is .long); small = is .small }
+
+  pub answer-inverse :
+      {rising : Bool} {r : Found}
+      → rising ≡ true
+      → Answers (agree true n entries every) (stagesOf true n (unasked true entries every (2 ^ n))) r
+      → Answers (fits rising n entries) (alone rising n entries) r
+  answer-inverse q f =
+      rw q (answer true n entries entries every is (λ p l. (refl, at-place p l)) entries-within every-within f)
+
+  pub answer-butterfly :
+      {rising : Bool} {r : Found}
+      → rising ≡ false
+      → Answers (agree false n every entries) (stagesOf false n (unasked true every entries (2 ^ n))) r
+      → Answers (fits rising n entries) (alone rising n entries) r
+  answer-butterfly q f =
+      rw q (answer false n entries every entries is (λ p l. (at-place p l, refl)) every-within entries-within f)

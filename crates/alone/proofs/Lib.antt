@@ -1,5 +1,5 @@
 pub mod Route
-pub mod Asked
+pub mod Asking
 pub mod Words
 pub mod Steps
 pub mod Calls

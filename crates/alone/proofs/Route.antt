@@ -3,9 +3,10 @@
 use mathlib.Core.Path.{_≡_, refl, sym, ap, ap₂, _∙_}
 use mathlib.Core.Bool.{Bool, true, false, not, cond}
 use Prim.Native.Nat.{ℕ, zero, suc, _+_, _-_, _*_, _/_, _%_, _^_, _≤_, _<_}
-use native.Mathlib.Nat.{pow-suc, add-div-right, add-mod-right, div-eq-sub-div, mod-eq-sub-mod, div-div-eq-div-mul, div-eq-of-lt}
+use native.Mathlib.Nat.{pow-suc, add-div-right, add-mod-right, div-eq-sub-div, mod-eq-sub-mod, div-div-eq-div-mul, div-eq-of-lt, div-lt-iff-lt-mul, mod-eq-of-lt, pow-succ'}
 use native.Mathlib.Decide.{decLt}
 use native.Mathlib.Omega.{arith}
+use lib.Arith.{mod-mul}
 use lib.Dec.{eqb}
 use lib.Pow.{pow-pos, mod-mod-pow}
 use borrow.Author.Tests.{eqb-true, eqb-false, eq-eqb, ne-eqb}
@@ -14,10 +15,10 @@ use Rattle.bits.proofs.Word.{bit-mod}
 use Rattle.routing.specs.Stages.{switchOf, partner, through, butterfly}
 use Rattle.alone.specs.Asked.{crossed, straight}
 
-pub half-above : (e x : ℕ) → x / 2 ^ suc e ≡ x / 2 ^ e / 2
+half-above : (e x : ℕ) → x / 2 ^ suc e ≡ x / 2 ^ e / 2
 half-above e x = rw pow-suc (sym (div-div-eq-div-mul x (2 ^ e) 2))
 
-pub odd-above : (e x : ℕ) → (x / 2 ^ e % 2 ≡ 0 → ⊥) → 2 ^ e ≤ x
+odd-above : (e x : ℕ) → (x / 2 ^ e % 2 ≡ 0 → ⊥) → 2 ^ e ≤ x
 odd-above e x odd = go (decLt x (2 ^ e))
   where
     go : Dec (x < 2 ^ e) → 2 ^ e ≤ x
@@ -65,7 +66,7 @@ module _ (e : ℕ) (c : ℕ → Bool) (x : ℕ) where
       go true = partner-low e x
       go false = refl
 
-  pub through-above : through e c x / 2 ^ suc e ≡ x / 2 ^ suc e
+  through-above : through e c x / 2 ^ suc e ≡ x / 2 ^ suc e
   through-above = half-above e (through e c x) ∙ go (c (switchOf e x)) through-high ∙ sym (half-above e x)
     where
       go : (b : Bool) → through e c x / 2 ^ e ≡ cond b (other (x / 2 ^ e)) (x / 2 ^ e) → through e c x / 2 ^ e / 2 ≡ x / 2 ^ e / 2
@@ -102,24 +103,28 @@ butterfly-low (suc n) e c a l = go (decLt n e) (butterfly-low n e c a)
         ∙ mod-low e n (butterfly n c a) h
         ∙ ih h
 
+-- a bit with the low bits of b stands at the switch of its route
+at-switch :
+    (c : ℕ → ℕ → Bool) (a b e : ℕ)
+    → butterfly e c a % 2 ^ e ≡ b % 2 ^ e
+    → switchOf e (butterfly e c a) ≡ crossed e a b
+unfolding switchOf crossed
+at-switch c a b e low =
+    let q : butterfly e c a / 2 ^ suc e ≡ a / 2 ^ suc e =
+    half-above e (butterfly e c a) ∙ ap (λ (u : ℕ). u / 2) (butterfly-high e c a) ∙ sym (half-above e a)
+    in
+    ap₂ (λ (j t : ℕ). j * 2 ^ e + t) q low
+
 -- the route of bit b to place a, at the stage of exponent e
 module _ (n : ℕ) (c : ℕ → ℕ → Bool) (a b e : ℕ) (brings : butterfly n c a ≡ b) (h : e < n) where
-  route-low : (k : ℕ) → k ≤ n → b % 2 ^ k ≡ butterfly k c a % 2 ^ k
-  route-low k l = ap (λ (x : ℕ). x % 2 ^ k) (sym brings) ∙ butterfly-low n k c a l
-
-  pub route-switch : switchOf e (butterfly e c a) ≡ crossed e a b
-  unfolding switchOf crossed
-  route-switch =
-      let q : butterfly e c a / 2 ^ suc e ≡ a / 2 ^ suc e =
-      half-above e (butterfly e c a) ∙ ap (λ (u : ℕ). u / 2) (butterfly-high e c a) ∙ sym (half-above e a)
-      in
-      ap₂ (λ (j t : ℕ). j * 2 ^ e + t) q (sym (route-low e (omega arith)))
+  route-low : (k : ℕ) → k ≤ n → butterfly k c a % 2 ^ k ≡ b % 2 ^ k
+  route-low k l = sym (butterfly-low n k c a l) ∙ ap (λ (x : ℕ). x % 2 ^ k) brings
 
   source-bit : b / 2 ^ e % 2 ≡ butterfly (suc e) c a / 2 ^ e % 2
   unfolding bit
   source-bit =
       sym (bit-mod b (suc e) e (omega arith))
-      ∙ ap (λ (u : ℕ). u / 2 ^ e % 2) (route-low (suc e) h)
+      ∙ ap (λ (u : ℕ). u / 2 ^ e % 2) (sym (route-low (suc e) h))
       ∙ bit-mod (butterfly (suc e) c a) (suc e) e (omega arith)
 
   -- it passes its switch exactly if it goes straight
@@ -127,7 +132,7 @@ module _ (n : ℕ) (c : ℕ → ℕ → Bool) (a b e : ℕ) (brings : butterfly 
   unfolding straight butterfly
   route-straight =
       go (c e (switchOf e (butterfly e c a))) (through-high e (c e) (butterfly e c a))
-      ∙ ap (λ (s : ℕ). not (c e s)) route-switch
+      ∙ ap (λ (s : ℕ). not (c e s)) (at-switch c a b e (route-low e (omega arith)))
     where
       go :
           (d : Bool)
@@ -136,3 +141,50 @@ module _ (n : ℕ) (c : ℕ → ℕ → Bool) (a b e : ℕ) (brings : butterfly 
           → eqb (a / 2 ^ e % 2) (b / 2 ^ e % 2) ≡ not d
       go true t = ne-eqb (a / 2 ^ e % 2) (b / 2 ^ e % 2) (λ q. absurd (omega (arith, butterfly-high e c a, source-bit)))
       go false t = eq-eqb (a / 2 ^ e % 2) (b / 2 ^ e % 2) (omega (arith, butterfly-high e c a, source-bit))
+
+-- and a bit that does so at every stage comes from b
+module _ (c : ℕ → ℕ → Bool) (a b : ℕ) where
+  straight-bit :
+      (e : ℕ)
+      → butterfly e c a % 2 ^ e ≡ b % 2 ^ e
+      → straight e a b ≡ not (c e (crossed e a b))
+      → butterfly (suc e) c a / 2 ^ e % 2 ≡ b / 2 ^ e % 2
+  unfolding straight butterfly
+  straight-bit e low t =
+      go (c e (switchOf e x)) (through-high e (c e) x) (t ∙ ap (λ (s : ℕ). not (c e s)) (sym (at-switch c a b e low)))
+    where
+      x : ℕ
+      x = butterfly e c a
+
+      go :
+          (d : Bool)
+          → through e (c e) x / 2 ^ e ≡ cond d (other (x / 2 ^ e)) (x / 2 ^ e)
+          → eqb (a / 2 ^ e % 2) (b / 2 ^ e % 2) ≡ not d
+          → through e (c e) x / 2 ^ e % 2 ≡ b / 2 ^ e % 2
+      go true h t = let n = eqb-false (a / 2 ^ e % 2) (b / 2 ^ e % 2) t in omega (arith, butterfly-high e c a)
+      go false h t = omega (arith, butterfly-high e c a, eqb-true (a / 2 ^ e % 2) (b / 2 ^ e % 2) t)
+
+  straight-low :
+      (n : ℕ)
+      → ((e : ℕ) → e < n → straight e a b ≡ not (c e (crossed e a b)))
+      → butterfly n c a % 2 ^ n ≡ b % 2 ^ n
+  unfolding butterfly
+  straight-low zero t = omega arith
+  straight-low (suc e) t =
+      let low = straight-low e (λ d l. t d (omega arith)) in
+      let y = butterfly (suc e) c a in
+      let same : y % 2 ^ e ≡ b % 2 ^ e = through-low e (c e) (butterfly e c a) ∙ low in
+      let top = straight-bit e low (t e (omega arith)) in
+      rw pow-succ' (mod-mul y (omega arith) (pow-pos e) ∙ ap₂ (λ (u v : ℕ). u * 2 ^ e + v) top same ∙ sym (mod-mul b (omega arith) (pow-pos e)))
+
+  pub straight-brings :
+      (n : ℕ)
+      → a < 2 ^ n
+      → b < 2 ^ n
+      → ((e : ℕ) → e < n → straight e a b ≡ not (c e (crossed e a b)))
+      → butterfly n c a ≡ b
+  straight-brings n l m t =
+      let z : butterfly n c a < 1 * 2 ^ n =
+      div-lt-iff-lt-mul {k = 2 ^ n} (pow-pos n) .0 (omega (arith, butterfly-high n c a, div-eq-of-lt l))
+      in
+      sym (mod-eq-of-lt (omega arith)) ∙ straight-low n t ∙ mod-eq-of-lt m

@@ -1,23 +1,23 @@
--- What the code's steps come to: a switch, a stage, one stage more of a route, one route more of a stage.
+-- What the code's steps come to: the switch of a route, and one route more of a stage.
 -- Assumes nothing.
-use mathlib.Core.Path.{_≡_, refl, sym, ap, _∙_}
-use mathlib.Core.Bool.{Bool, true, false, cond}
+use mathlib.Core.Path.{_≡_, refl, sym, ap, ap₂, _∙_}
+use mathlib.Core.Bool.{Bool, true, false, not, cond}
 use mathlib.Core.List.{List}
 use Prim.Native.Nat.{ℕ, zero, suc, _+_, _-_, _*_, _/_, _%_, _^_, _≤_, _<_}
-use native.Mathlib.Nat.{pow-suc, mul-le-mul-right, mod-lt, one-mul, mod-eq-of-lt, div-lt-iff-lt-mul}
+use native.Mathlib.Nat.{pow-suc, pow-succ', mul-le-mul-right, mod-lt, one-mul, mod-eq-of-lt, div-lt-iff-lt-mul, div-add-mod', div-div-eq-div-mul}
+use native.Mathlib.Decide.{decLt}
 use native.Mathlib.Numerals.{add-one}
 use native.Mathlib.Omega.{arith}
-use lib.Bits.{bitOr}
-use lib.Dec.{eqb}
-use lib.ListN.{getD}
-use lib.Pow.{pow-pos, pow-mono, pow-lt, pow-add}
+use lib.Bits.{bitOr, bitXor, or-zero-r}
+use lib.ListN.{length, set}
+use lib.Seq.{getD-set-same, getD-set-other}
+use lib.Pow.{pow-pos, pow-lt, pow-add}
 use borrow.Author.Tests.{eq-eqb, ne-eqb}
-use Rattle.network.proofs.Columns.{shl-one}
+use Rattle.bits.specs.Bit.{bit}
+use Rattle.bits.proofs.Word.{bit-xor}
 use Rattle.routing.specs.Loop.{swap}
-use Rattle.routing.specs.Stages.{switchOf, partner, through, butterfly}
-use Rattle.routing.specs.Lists.{entry, ListPermutes, wordOf, controlIn}
-use Rattle.alone.specs.Asked.{crossed, straight, asked, placeOf, sourceOf, askedOf, stageAt, controlsFrom}
-use Rattle.alone.proofs.Route.{odd-above, through-above}
+use Rattle.routing.specs.Lists.{entry, wordOf}
+use Rattle.alone.specs.Asked.{crossed, straight, asks, asked, unasked, Within}
 use Rattle.alone.proofs.Words.{asked-turn}
 
 -- the places are blocks of twice the distance
@@ -32,89 +32,63 @@ crossed-lt n e a b h l =
     let w : 2 ^ n ≡ k * 2 ^ e * 2 = blocks n e h ∙ rw pow-suc (omega arith) in
     omega (arith, mul-le-mul-right (2 ^ e) j, mod-lt b (pow-pos e))
 
-through-lt : (n e : ℕ) (c : ℕ → Bool) (p : ℕ) → e < n → p < 2 ^ n → through e c p < 2 ^ n
-through-lt n e c p h l =
-    let j : p / 2 ^ suc e < 2 ^ (n - suc e) = div-lt-iff-lt-mul {k = 2 ^ suc e} (pow-pos (suc e)) .1 (omega (arith, blocks n e h)) in
-    let t : through e c p < 2 ^ (n - suc e) * 2 ^ suc e =
-    div-lt-iff-lt-mul {k = 2 ^ suc e} (pow-pos (suc e)) .0 (omega (arith, through-above e c p))
-    in
-    omega (arith, blocks n e h)
-
 -- the distance as the code has it
 abbrev distance : ℕ → ℕ
-distance e = 1 * 2 ^ e % 2 ^ 64
+distance e = 1 * 2 ^ e % 2 ^ 32
+
+-- half the place without its lowest bits, and the source's in their stead
+abbrev mixed : ℕ → ℕ → ℕ → ℕ
+mixed e a b = a / 2 ^ 1 - a / 2 ^ 1 % distance e + b % distance e
 
 module _ (e : ℕ) (h : e < 6) where
   distance-is : distance e ≡ 2 ^ e
-  distance-is = shl-one e (omega arith)
+  distance-is = let l : e < 32 = omega arith in rw one-mul (mod-eq-of-lt (pow-lt l))
 
   pub distance-pos : 0 < distance e
   distance-pos = omega (arith, distance-is, pow-pos e)
 
-  pub switch-is :
-      (a b : ℕ)
-      → a < 64
-      → (a / 2 ^ (e + 1) * distance e + b % distance e < 32) × (a / 2 ^ (e + 1) * distance e + b % distance e ≡ crossed e a b)
+  pub switch-is : (a b : ℕ) → a < 64 → (a / 2 ^ 1 % distance e ≤ a / 2 ^ 1) × (mixed e a b < 32) × (mixed e a b ≡ crossed e a b)
   unfolding crossed
   switch-is a b l =
-      let q : a / 2 ^ (e + 1) * distance e + b % distance e ≡ crossed e a b = rw (add-one e, distance-is) in
-      (omega (arith, q, crossed-lt 6 e a b h l), q)
+      let x = a / 2 ^ 1 in
+      let whole = div-add-mod' x (2 ^ e) in
+      let high : x / 2 ^ e ≡ a / 2 ^ suc e = div-div-eq-div-mul a 2 (2 ^ e) ∙ ap (λ (d : ℕ). a / d) (sym (pow-succ' 2 e)) in
+      let q : mixed e a b ≡ crossed e a b =
+      rw distance-is (ap (λ (y : ℕ). y + b % 2 ^ e) (omega (arith, whole, ap (λ (y : ℕ). y * 2 ^ e) high)))
+      in
+      (omega (arith, whole, ap (λ (d : ℕ). x % d) distance-is), omega (arith, q, crossed-lt 6 e a b h l), q)
 
--- a route that goes straight asks for a one at its switch, and another for none
-module _ (e a b : ℕ) where
-  pub asked-one : {s : ℕ} → a / 2 ^ e % 2 ≡ b / 2 ^ e % 2 → (s < 32) × (s ≡ crossed e a b) → 1 * 2 ^ s % 2 ^ 32 ≡ asked e a b
-  unfolding asked straight
-  asked-one {s} t f =
-      rw one-mul (mod-eq-of-lt (pow-lt (f .0)))
-      ∙ ap (λ (i : ℕ). 2 ^ i) (f .1)
-      ∙ sym (ap (λ (x : Bool). cond x (2 ^ crossed e a b) 0) (eq-eqb (a / 2 ^ e % 2) (b / 2 ^ e % 2) t))
+-- a route asks its switch to pass if bits e are the same, or else to swap
+module _ (e a b : ℕ) {s : ℕ} (f : (s < 32) × (s ≡ crossed e a b)) where
+  abbrev switch : ℕ
+  switch = 1 * 2 ^ s % 2 ^ 32
 
-  pub asked-none : (a / 2 ^ e % 2 ≡ b / 2 ^ e % 2 → ⊥) → 0 ≡ asked e a b
-  unfolding asked straight
-  asked-none t = sym (ap (λ (x : Bool). cond x (2 ^ crossed e a b) 0) (ne-eqb (a / 2 ^ e % 2) (b / 2 ^ e % 2) t))
+  switch-bit : switch ≡ 2 ^ crossed e a b
+  switch-bit = rw one-mul (mod-eq-of-lt (pow-lt (f .0))) ∙ ap (λ (i : ℕ). 2 ^ i) (f .1)
 
--- the code's three ways through a stage
-module _ (e stage p : ℕ) (h : e < 6) (l : p < 64) where
-  abbrev Through : ℕ → Type 0
-  Through x = (x < 64) × (x ≡ through e (controlIn stage) p)
+  unequal : bitXor a b / 2 ^ e % 2 ≡ (a / 2 ^ e % 2 + b / 2 ^ e % 2) % 2
+  unfolding bit
+  unequal = bit-xor a b e
 
-  is-through : {x : ℕ} → x ≡ through e (controlIn stage) p → Through x
-  is-through q = (omega (arith, q, through-lt 6 e (controlIn stage) p h l), q)
+  by-way : (way t : Bool) → straight e a b ≡ t → asked way e a b ≡ cond (cond way t (not t)) switch 0
+  unfolding asked asks
+  by-way way t q = ap₂ (λ (u : Bool) (x : ℕ). cond (cond way u (not u)) x 0) q (sym switch-bit)
 
-  through-by : {s : ℕ} {b : Bool} → s ≡ crossed e p p → eqb (stage / 2 ^ s % 2) 0 ≡ b → through e (controlIn stage) p ≡ cond b (partner e p) p
-  unfolding through switchOf crossed controlIn
-  through-by q t = ap (λ (b : Bool). cond b (partner e p) p) (ap (λ (i : ℕ). eqb (stage / 2 ^ i % 2) 0) (sym q) ∙ t)
+  module _ (x y : ℕ) where
+    abbrev Adds : ℕ → ℕ → Type 0
+    Adds p q = (p ≡ bitOr x (asked true e a b)) × (q ≡ bitOr y (asked false e a b))
 
-  partner-by : {b : Bool} → eqb (p / 2 ^ e % 2) 0 ≡ b → partner e p ≡ cond b (p + distance e) (p - distance e)
-  unfolding partner
-  partner-by t = rw (distance-is e h, t)
+    pub route-passes : bitXor a b / 2 ^ e % 2 ≡ 0 → Adds (bitOr x switch) y
+    unfolding straight
+    route-passes t =
+        let q = eq-eqb (a / 2 ^ e % 2) (b / 2 ^ e % 2) (omega (arith, unequal)) in
+        (ap (bitOr x) (sym (by-way true true q)), sym (ap (bitOr y) (by-way false true q) ∙ or-zero-r y))
 
-  pub through-passes : {s : ℕ} → s ≡ crossed e p p → (stage / 2 ^ s % 2 ≡ 0 → ⊥) → Through p
-  through-passes {s} q t = is-through (sym (through-by q (ne-eqb (stage / 2 ^ s % 2) 0 t)))
-
-  pub through-up : {s : ℕ} → s ≡ crossed e p p → stage / 2 ^ s % 2 ≡ 0 → p / 2 ^ e % 2 ≡ 0 → Through (p + distance e)
-  through-up {s} q t u =
-      is-through (sym (through-by q (eq-eqb (stage / 2 ^ s % 2) 0 t) ∙ partner-by (eq-eqb (p / 2 ^ e % 2) 0 u)))
-
-  pub through-down : {s : ℕ} → s ≡ crossed e p p → stage / 2 ^ s % 2 ≡ 0 → (p / 2 ^ e % 2 ≡ 0 → ⊥) → Through (p - distance e)
-  through-down {s} q t u =
-      is-through (sym (through-by q (eq-eqb (stage / 2 ^ s % 2) 0 t) ∙ partner-by (ne-eqb (p / 2 ^ e % 2) 0 u)))
-
-  pub distance-le : (p / 2 ^ e % 2 ≡ 0 → ⊥) → distance e ≤ p
-  distance-le u = omega (arith, distance-is e h, odd-above e p u)
-
-  pub distance-small : distance e ≤ 32
-  distance-small = let m : e ≤ 5 = omega arith in omega (arith, distance-is e h, pow-mono m)
-
--- one stage more of a route
-pub route-turn :
-    (rising : Bool) (n : ℕ) (stages : List ℕ) (a e : ℕ) {i x y : ℕ}
-    → i ≡ stageAt rising n e
-    → x ≡ butterfly e (controlsFrom rising n stages) a
-    → y ≡ through e (controlIn (getD stages i 0)) x
-    → y ≡ butterfly (e + 1) (controlsFrom rising n stages) a
-unfolding butterfly controlsFrom
-route-turn rising n stages a e q f g = rw add-one (g ∙ rw (q, f))
+    pub route-swaps : (bitXor a b / 2 ^ e % 2 ≡ 0 → ⊥) → Adds x (bitOr y switch)
+    unfolding straight
+    route-swaps t =
+        let q = ne-eqb (a / 2 ^ e % 2) (b / 2 ^ e % 2) (λ u. t (unequal ∙ omega arith)) in
+        (sym (ap (bitOr x) (by-way true false q) ∙ or-zero-r x), ap (bitOr y) (sym (by-way false false q)))
 
 -- one route more of a stage
 word-none : (w : ℕ) → wordOf w (λ s. swap) ≡ 0
@@ -122,32 +96,35 @@ unfolding wordOf
 word-none zero = refl
 word-none (suc w) = omega (arith, word-none w)
 
-pub none-asked : (rising : Bool) (entries : List ℕ) (w e : ℕ) → 0 ≡ wordOf w (askedOf rising entries 0 e)
-unfolding askedOf
-none-asked rising entries w e = sym (word-none w)
+pub none-asked : (way : Bool) (places sources : List ℕ) (w e : ℕ) → 0 ≡ wordOf w (unasked way places sources 0 e)
+unfolding unasked
+none-asked way places sources w e = sym (word-none w)
 
-module _ (rising : Bool) (n : ℕ) (entries : List ℕ) (is : ListPermutes (2 ^ n) entries) (p : ℕ) (l : p < 2 ^ n) where
-  pub place-lt : placeOf rising entries p < 2 ^ n
-  unfolding placeOf
-  place-lt = go rising
-    where
-      go : (b : Bool) → cond b (entry entries p) p < 2 ^ n
-      go true = is .small p l
-      go false = l
+pub stage-turn :
+    (way : Bool) (n : ℕ) (places sources : List ℕ)
+    → Within (2 ^ n) places
+    → (p e : ℕ) {x y : ℕ}
+    → p < 2 ^ n
+    → e < n
+    → x ≡ wordOf (2 ^ n / 2) (unasked way places sources p e)
+    → y ≡ bitOr x (asked way e (entry places p) (entry sources p))
+    → y ≡ wordOf (2 ^ n / 2) (unasked way places sources (p + 1) e)
+unfolding unasked
+stage-turn way n places sources is p e l h f g =
+    let a = entry places p in
+    let b = entry sources p in
+    g ∙ rw (f, add-one p) (asked-turn way (2 ^ n / 2) e a b (unasked way places sources p e) (crossed-lt n e a b h (is .small p l)))
 
-  pub place-small : {a : ℕ} → n ≤ 6 → a ≡ placeOf rising entries p → a < 64
-  place-small m q = omega (arith, place-lt, pow-mono m)
-
-  pub stage-turn :
-      (e : ℕ) {a b x y : ℕ}
-      → e < n
-      → a ≡ placeOf rising entries p
-      → b ≡ sourceOf rising entries p
-      → x ≡ wordOf (2 ^ n / 2) (askedOf rising entries p e)
-      → y ≡ asked e a b
-      → bitOr x y ≡ wordOf (2 ^ n / 2) (askedOf rising entries (p + 1) e)
-  unfolding askedOf
-  stage-turn e {a} {b} {x} {y} h qa qb f g =
-      let r = placeOf rising entries p in
-      let s = sourceOf rising entries p in
-      rw (f, g, qa, qb, add-one p) (asked-turn (2 ^ n / 2) e r s (askedOf rising entries p e) (crossed-lt n e r s h place-lt))
+-- one place more of a list of them
+pub place-turn :
+    (l : List ℕ) (k : ℕ)
+    → k < length l
+    → ((p : ℕ) → p < k → entry l p ≡ p)
+    → (p : ℕ)
+    → p < k + 1
+    → entry (set l k k) p ≡ p
+place-turn l k h all p m = go (decLt p k)
+  where
+    go : Dec (p < k) → entry (set l k k) p ≡ p
+    go (yes j) = getD-set-other l k p k 0 (λ q. absurd (omega arith)) ∙ all p j
+    go (no g) = let q : p ≡ k = omega arith in ap (entry (set l k k)) q ∙ getD-set-same l k k 0 h ∙ sym q

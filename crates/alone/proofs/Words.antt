@@ -1,24 +1,22 @@
--- Stages as words: one route more of a stage, and the stages of a network in the direction of travel.
+-- Stages as words: one route more of a stage, words with no one in common, and the stages of a network in the direction of travel.
 -- Assumes nothing.
 use mathlib.Core.Path.{_≡_, refl, sym, ap, ap₂, _∙_}
 use mathlib.Core.Bool.{Bool, true, false, cond, _&&_}
-use Prim.Native.Nat.{ℕ, zero, suc, _+_, _-_, _*_, _/_, _^_, _≤_, _<_, max}
+use Prim.Native.Nat.{ℕ, zero, suc, _+_, _-_, _*_, _/_, _^_, _≤_, _<_, min, max}
 use native.Mathlib.Nat.{one-mul, add-zero}
 use native.Mathlib.Decide.{decLt}
 use native.Mathlib.Omega.{arith}
 use lib.Dec.{eqb}
-use lib.Bits.{bitOr, or-lt, or-zero-r}
-use lib.ListN.{length, getD, replicate, List·getD-append}
-use lib.Pow.{pow-lt}
+use lib.Bits.{bitAnd, bitOr, or-lt, or-zero-r, and-le-r}
+use lib.ListN.{length, getD}
+use lib.Pow.{pow-pos, pow-lt}
 use borrow.Author.Tests.{eqb-true, eqb-false}
 use Rattle.bits.specs.Bit.{bit}
-use Rattle.bits.proofs.Word.{bit-or, bit-shl-low, bit-shl-high, bit-above, ext}
-use Rattle.network.specs.Calls.{six}
+use Rattle.bits.proofs.Word.{bit-of-zero, bit-and, bit-or, bit-shl-low, bit-shl-high, bit-above, ext}
 use Rattle.routing.specs.Loop.{pass}
-use Rattle.routing.specs.Stages.{Same}
-use Rattle.routing.specs.Lists.{wordOf, controlIn, butterflyWords, inverseWords, butterflyFrom, inverseFrom}
-use Rattle.routing.proofs.Words.{word-small, word-bit, butterfly-words, inverse-words}
-use Rattle.alone.specs.Asked.{crossed, straight, asked, stageAt, stagesOf, controlsFrom}
+use Rattle.routing.specs.Lists.{wordOf, butterflyWords, inverseWords}
+use Rattle.routing.proofs.Words.{word-small, word-bit}
+use Rattle.alone.specs.Asked.{crossed, asks, asked, stageAt, stagesOf}
 
 power-bit : (s i : ℕ) → bit (2 ^ s) i ≡ cond (eqb i s) 1 0
 unfolding bit
@@ -60,11 +58,11 @@ or-pass w s c h =
     go false false = refl
 
 pub asked-turn :
-    (w e a b : ℕ) (c : ℕ → Bool)
+    (way : Bool) (w e a b : ℕ) (c : ℕ → Bool)
     → crossed e a b < w
-    → bitOr (wordOf w c) (asked e a b) ≡ wordOf w (λ s. cond (straight e a b && eqb s (crossed e a b)) pass (c s))
+    → bitOr (wordOf w c) (asked way e a b) ≡ wordOf w (λ s. cond (asks way e a b && eqb s (crossed e a b)) pass (c s))
 unfolding asked
-asked-turn w e a b c h = go (straight e a b)
+asked-turn way w e a b c h = go (asks way e a b)
   where
     go :
         (t : Bool)
@@ -72,6 +70,30 @@ asked-turn w e a b c h = go (straight e a b)
         ≡ wordOf w (λ s. cond (t && eqb s (crossed e a b)) pass (c s))
     go true = or-pass w (crossed e a b) c h
     go false = or-zero-r (wordOf w c)
+
+-- two words without a one in common
+module _ (w : ℕ) (c d : ℕ → Bool) where
+  common-bit : (s : ℕ) → s < w → bit (bitAnd (wordOf w c) (wordOf w d)) s ≡ min (cond (c s) 0 1) (cond (d s) 0 1)
+  unfolding bit
+  common-bit s l = bit-and (wordOf w c) (wordOf w d) s ∙ ap₂ min (word-bit w c s l) (word-bit w d s l)
+
+  pub apart-words : ((s : ℕ) → s < w → c s ≡ false → d s ≡ false → ⊥) → bitAnd (wordOf w c) (wordOf w d) ≡ 0
+  apart-words apart =
+      ext w (omega (arith, and-le-r (wordOf w c) (wordOf w d), word-small w d)) (pow-pos w)
+      (λ s l. common-bit s l ∙ go s (c s) (d s) refl refl (apart s l) ∙ sym (bit-of-zero s))
+    where
+      go : (s : ℕ) (x y : Bool) → c s ≡ x → d s ≡ y → (c s ≡ false → d s ≡ false → ⊥) → min (cond x 0 1) (cond y 0 1) ≡ 0
+      go s true true p q n = refl
+      go s true false p q n = refl
+      go s false true p q n = refl
+      go s false false p q n = absurd (n p q)
+
+  pub words-apart : bitAnd (wordOf w c) (wordOf w d) ≡ 0 → (s : ℕ) → s < w → c s ≡ false → d s ≡ false → ⊥
+  words-apart e s l p q =
+      let one : bit (bitAnd (wordOf w c) (wordOf w d)) s ≡ 1 =
+      common-bit s l ∙ ap₂ (λ (x y : Bool). min (cond x 0 1) (cond y 0 1)) p q
+      in
+      absurd (omega (arith, one, ap (λ (x : ℕ). bit x s) e, bit-of-zero s))
 
 -- the stages in the direction of travel
 
@@ -120,27 +142,3 @@ stage-word rising n c i h q f = f ∙ ap (λ (e : ℕ). wordOf (2 ^ n / 2) (c e)
         let z : i ≡ 0 + i = omega arith in
         ap (λ (e : ℕ). wordOf (2 ^ n / 2) (c e)) z ∙ sym (inverse-stage (2 ^ n / 2) 0 n c i h)
     go false = sym (butterfly-stage (2 ^ n / 2) n c i h)
-
--- so the six stages stand for their controls
-pub six-same : (rising : Bool) (n : ℕ) (c : ℕ → ℕ → Bool) → Same n c (controlsFrom rising n (six (stagesOf rising n c)))
-unfolding controlsFrom stagesOf butterflyFrom inverseFrom
-six-same rising n c e s i = go rising
-  where
-    -- the stages stand in front
-    front :
-        (b : Bool)
-        → stageAt b n e < n
-        → c e s ≡ controlIn (getD (stagesOf b n c) (stageAt b n e) 0) s
-        → c e s ≡ controlsFrom b n (six (stagesOf b n c)) e s
-    front b l q =
-        let r = length-stages b n c in
-        q
-        ∙ ap (λ (x : ℕ). controlIn x s)
-        (sym (List·getD-append (stagesOf b n c) (replicate (6 - length (stagesOf b n c)) 0) 0 (stageAt b n e) (omega arith)))
-
-    go : (b : Bool) → c e s ≡ controlsFrom b n (six (stagesOf b n c)) e s
-    go true = front true (i .at-stage) (inverse-words n c e s i)
-    go false =
-        let q : n - suc e ≡ n - 1 - e = omega arith in
-        front false (omega (arith, i .at-stage))
-        (butterfly-words n c e s i ∙ ap (λ (k : ℕ). controlIn (getD (butterflyWords (2 ^ n / 2) n c) k 0) s) q)

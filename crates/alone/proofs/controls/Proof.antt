@@ -1,32 +1,61 @@
 -- `alone::controls` meets its contract. Assumes nothing.
-use Rattle.alone.proofs.Calls.{answer-found, answer-none}
+use Prim.Native.Nat.{_^_}
+use Rattle.routing.specs.Lists.{ListPermutes}
+use Rattle.alone.proofs.Calls.{every-within, entries-within, answer-inverse, answer-butterfly}
 use borrow.Author.Needs.{needs}
 use Rattle.alone.proofs.controls.Statement.{statement}
 use Rattle.alone.proofs.controls.Tie as tie
 use Rattle.alone.proofs.controls.Reads as reads
 use Rattle.alone.proofs.controls.Lts as lts
-use Rattle.alone.proofs.asked_stages.Reads as asked-stages-reads
-use Rattle.alone.proofs.is_realised.Reads as is-realised-reads
+use Rattle.alone.proofs.agreed.Reads as agreed-reads
+use Rattle.alone.proofs.every_place.Reads as every-place-reads
 
-asked-stages-requires : tie.Need-asked-stages-requires
-asked-stages-requires c κs = search needs
+every-place-requires : tie.Need-every-place-requires
+every-place-requires c κs = search needs
 
-is-realised-requires : tie.Need-is-realised-requires
-is-realised-requires c κs = search needs
+slice-aggregate-agreed : tie.Need-slice-aggregate-agreed
+slice-aggregate-agreed c = search needs
+
+agreed-requires : tie.Need-agreed-requires
+agreed-requires c κs =
+    let b = c .before .before in
+    let a = b .before .before .args in
+    let is : ListPermutes (2 ^ a .log) (a .entries .now) = search needs in (
+      search needs,
+      search needs,
+      entries-within (a .log) (search needs) (a .entries .now) (b .every-place .result) is (b .every-place .ensures),
+      every-within (a .log) (search needs) (a .entries .now) (b .every-place .result) is (b .every-place .ensures),
+    )
 
 returns : tie.Need-returns
 returns c =
+    let b = c .before .before .before in
+    let a = b .before .before .args in
+    answer-inverse (a .log) (search needs) (a .entries .now) (b .every-place .result) (search needs) (b .every-place .ensures)
+    (c .before .before .if1 .taken) (c .agreed .ensures)
+
+slice-aggregate-agreed-2 : tie.Need-slice-aggregate-agreed-2
+slice-aggregate-agreed-2 c = search needs
+
+agreed-requires-2 : tie.Need-agreed-requires-2
+agreed-requires-2 c κs =
     let b = c .before .before in
     let a = b .before .before .args in
-    answer-found (a .rising) (a .log) (a .entries .now) (search needs) (b .asked-stages .ensures)
-    (c .before .is-realised .ensures) (c .if1 .taken)
+    let is : ListPermutes (2 ^ a .log) (a .entries .now) = search needs in (
+      search needs,
+      search needs,
+      every-within (a .log) (search needs) (a .entries .now) (b .every-place .result) is (b .every-place .ensures),
+      entries-within (a .log) (search needs) (a .entries .now) (b .every-place .result) is (b .every-place .ensures),
+    )
 
 returns-2 : tie.Need-returns-2
 returns-2 c =
-    let b = c .before .before in
+    let b = c .before .before .before in
     let a = b .before .before .args in
-    answer-none (a .rising) (a .log) (a .entries .now) (search needs) (b .asked-stages .ensures)
-    (c .before .is-realised .ensures) (c .if1 .left)
+    answer-butterfly (a .log) (search needs) (a .entries .now) (b .every-place .result) (search needs) (b .every-place .ensures)
+    (c .before .before .if1 .left) (c .agreed2 .ensures)
 
 pub controls-spec : {M : Type 1} → statement M
-controls-spec = tie.close (tie.spec asked-stages-requires is-realised-requires returns returns-2)
+controls-spec =
+    tie.close
+    (tie.spec every-place-requires slice-aggregate-agreed agreed-requires returns slice-aggregate-agreed-2 agreed-requires-2 returns-2)
