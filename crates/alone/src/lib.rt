@@ -73,7 +73,7 @@ fn with_route(before: Asked, exponent: u32, place: u32, source: u32) -> Asked
 }
 
 // internal: a stage of the network, as many routes as it has places, and a place and a bit for each. What they ask of the stage. (`routes` is
-// handed on because a loop up to `1 << log` is not compiled to vectors, which makes it three times as slow.)
+// handed on because a loop up to `1 << log` is not compiled to vectors, and then the call takes more than twice as long.)
 fn asked_of(log: usize, routes: usize, places: &[u8], sources: &[u8], exponent: u32) -> Asked
     requires { ⌜ (log ≤ 6) × (exponent < log) × (routes ≡ 2 ^ log) × Within (2 ^ log) (now places) × Within (2 ^ log) (now sources) ⌝ }
     ensures { λ r. ⌜ (r .pass ≡ askedWord true log (now (places .entry)) (now (sources .entry)) exponent)
