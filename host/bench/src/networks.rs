@@ -96,7 +96,6 @@ fn network<const RISING: bool>(name: &str, library: Network) {
         let swaps = swaps_of::<RISING>(&journey.controls);
         delta_swaps::<RISING>(&swaps, journey.word)
     })
-    .within(1.1)
     .print(name);
 }
 
