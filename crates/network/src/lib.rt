@@ -230,22 +230,23 @@ pub fn inverse_64(stages: [u32; 6], word: u64) -> u64
     rise(prepare(reversed(6, stages)), word)
 }
 
+// The answer of a call on a network.
+fn answer(refusal: u8, word: u64) -> Carried
+    ensures { λ r. ⌜ r ≡ record { refusal = refusal; word = word } ⌝ }
+{
+    Carried { refusal, word }
+}
+
 // The word through the butterfly: distances w/2, .., 2, 1.
 pub fn butterfly(width: u32, controls: Controls, word: u64) -> Carried
     ensures { λ r. ⌜ r ≡ carryAnswer butterflyOf width controls word ⌝ }
 {
     let stages = controls.stages;
     if width == 64 {
-        return Carried {
-            refusal: 0,
-            word: butterfly_64(stages, word),
-        };
+        return answer(0, butterfly_64(stages, word));
     }
     let refusal = carry_refusal(width, stages, word);
-    Carried {
-        refusal,
-        word: through(false, refusal, width, stages, word),
-    }
+    answer(refusal, through(false, refusal, width, stages, word))
 }
 
 // The word through the inverse butterfly: distances 1, 2, .., w/2.
@@ -254,16 +255,10 @@ pub fn inverse(width: u32, controls: Controls, word: u64) -> Carried
 {
     let stages = controls.stages;
     if width == 64 {
-        return Carried {
-            refusal: 0,
-            word: inverse_64(stages, word),
-        };
+        return answer(0, inverse_64(stages, word));
     }
     let refusal = carry_refusal(width, stages, word);
-    Carried {
-        refusal,
-        word: through(true, refusal, width, stages, word),
-    }
+    answer(refusal, through(true, refusal, width, stages, word))
 }
 
 // The controls of the inverse (rising) or of the butterfly made ready.
