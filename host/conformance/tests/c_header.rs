@@ -1,6 +1,7 @@
 //! include/tigbayon.h compiles as C and as C++, lays its structs out as the
 //! Rust declarations do, and its calls link and answer.
 
+use std::fs;
 use std::mem::{offset_of, size_of};
 use std::path::Path;
 use std::process::Command;
@@ -55,14 +56,16 @@ const UNIT: &str = "\
     write 8\n\
     list: 8 0 0 3 3 1 2 3\n";
 
-/// Compiles tests/c/interface.c with the archive and answers what it prints.
-fn compile_and_run(compiler: &str, language: &str, standard: &str) -> String {
-    let program = Path::new(env!("CARGO_TARGET_TMPDIR")).join(format!("interface-{standard}"));
+/// Compiles a file with the archive and answers what it prints.
+fn compile_and_run(file: &Path, compiler: &str, language: &str, standard: &str) -> String {
+    let name = file.file_stem().expect("a file").to_string_lossy();
+    let program = Path::new(env!("CARGO_TARGET_TMPDIR")).join(format!("{name}-{standard}"));
     let status = Command::new(compiler)
         .args(["-Wall", "-Wextra", "-Werror", "-pedantic"])
         .arg(format!("-std={standard}"))
         .arg(format!("-I{CRATE}/../../include"))
-        .args(["-x", language, &format!("{CRATE}/tests/c/interface.c")])
+        .args(["-x", language])
+        .arg(file)
         .args(["-x", "none", env!("TIGBAYON_ARCHIVE")])
         .arg("-o")
         .arg(&program)
@@ -131,12 +134,28 @@ fn expected() -> String {
     format!("{layouts}numbers 0{numbers}\n{answers}{PREPARED}{STRIPS}{UNIT}")
 }
 
+fn interface(compiler: &str, language: &str, standard: &str) -> String {
+    let file = Path::new(CRATE).join("tests/c/interface.c");
+    compile_and_run(&file, compiler, language, standard)
+}
+
 #[test]
 fn in_c99() {
-    assert_eq!(compile_and_run("cc", "c", "c99"), expected());
+    assert_eq!(interface("cc", "c", "c99"), expected());
 }
 
 #[test]
 fn in_cpp() {
-    assert_eq!(compile_and_run("c++", "c++", "c++11"), expected());
+    assert_eq!(interface("c++", "c++", "c++11"), expected());
+}
+
+/// The repository's README shows how to link; its program prints what it says.
+#[test]
+fn readme() {
+    let readme = include_str!("../../../README.md");
+    let (_, rest) = readme.split_once("```c\n").expect("a program in C");
+    let (program, _) = rest.split_once("```").expect("its end");
+    let file = Path::new(env!("CARGO_TARGET_TMPDIR")).join("readme.c");
+    fs::write(&file, program).expect("a file");
+    assert_eq!(compile_and_run(&file, "cc", "c", "c99"), "123456789abc\n");
 }
