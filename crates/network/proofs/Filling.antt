@@ -6,7 +6,7 @@ use native.Mathlib.Omega.{arith}
 use native.Mathlib.Decide.{decLt}
 use native.Mathlib.Nat.{not-suc-le-zero}
 use native.Mathlib.Numerals.{add-one}
-use lib.ListN.{length, getD, take, set, replicate, length-reverse, length-take, List·getD-append}
+use lib.ListN.{length, getD, take, set, replicate, length-reverse, List·getD-append}
 use lib.Seq.{take-suc, take-length, take-all, set-at, getD-at, getD-take, length-take-le}
 use Rattle.network.specs.Calls.{six}
 

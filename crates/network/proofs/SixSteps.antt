@@ -1,18 +1,18 @@
 -- One turn of the loops over the six stages. Assumes nothing.
 use mathlib.Core.Path.{_≡_, refl, sym, _∙_, ap, ap₂}
 use mathlib.Core.Bool.{Bool, true, false, cond}
-use mathlib.Core.List.{List, [], _∷_, _++_, reverse}
+use mathlib.Core.List.{List, [], _∷_, reverse}
 use Prim.Native.Nat.{ℕ, zero, suc, _+_, _-_, _^_, _<_, _≤_}
 use native.Mathlib.Omega.{arith}
 use native.Mathlib.Nat.{not-suc-le-zero}
 use native.Mathlib.Numerals.{add-one}
-use lib.ListN.{length, getD, take, drop, replicate, length-append, length-replicate, length-reverse, drop-of-length-le, replicate-append-replicate}
-use lib.Seq.{drop-cons, take-at, getD-append-add, getD-take, length-take-le}
+use lib.ListN.{length, getD, take, drop, replicate, length-append, length-replicate, length-reverse, drop-of-length-le, List·getD-append, getD-replicate}
+use lib.Seq.{drop-cons, getD-append-add, getD-take, length-take-le}
 use Rattle.network.specs.Stage.{falling, rising}
 use Rattle.network.specs.Word.{swapsOf, swapsAt, exchangeOf, exchangesOf, allPass, byIndex}
 use Rattle.network.proofs.Travel.{length-falling, length-rising}
 use Rattle.network.proofs.Steps.{falling-at, rising-at}
-use Rattle.network.proofs.Filling.{filled, reverse-at, reversed-at}
+use Rattle.network.proofs.Filling.{reverse-at, reversed-at}
 
 -- the swaps of a stage of the table
 
@@ -88,15 +88,10 @@ module _ (b : Bool) (L : ℕ) (hL : L ≤ 6) (cs : List ℕ) (hc : length cs ≡
   length-index =
       length-append (replicate (6 - L) allPass) used ∙ omega (arith, length-replicate (6 - L) allPass, length-used)
 
-  pub index-start : replicate 6 allPass ≡ filled allPass (6 - L) (byIndex b L cs)
+  pub index-none : (i : ℕ) → i < 6 - L → allPass ≡ getD (byIndex b L cs) i 0
   unfolding used
-  index-start =
-      let n : 6 - (6 - L) ≡ L = omega arith in
-      let s : 6 - L + L ≡ 6 = omega arith in
-      sym
-      (ap₂ _++_ (take-at (replicate (6 - L) allPass) used (6 - L) (length-replicate (6 - L) allPass)) (ap (λ (k : ℕ). replicate k allPass) n)
-      ∙ replicate-append-replicate (6 - L) L allPass
-      ∙ ap (λ (k : ℕ). replicate k allPass) s)
+  index-none i h =
+      sym (List·getD-append (replicate (6 - L) allPass) used 0 i (omega (arith, length-replicate (6 - L) allPass)) ∙ getD-replicate (6 - L) i allPass 0 h)
 
   pub index-here : (i : ℕ) {v : ℕ} → 6 - L ≤ i → i < 6 → v ≡ cond b (5 - i) (i - (6 - L)) → getD cs v 0 ≡ getD (byIndex b L cs) i 0
   unfolding used

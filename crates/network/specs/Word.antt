@@ -25,7 +25,7 @@ spreadOf d c = atLower d (λ p. bit c (switchOf d p))
 unfoldable pub swapsOf : ℕ → ℕ → ℕ
 swapsOf d c = bitAnd (pairs d) ((2 ^ 64 - 1) - spreadOf d c)
 
--- each pair whose lower place is marked in s exchanged
+-- each pair whose lower place is marked in s exchanged, where s marks no upper place
 unfoldable pub exchangeOf : ℕ → ℕ → ℕ → ℕ
 exchangeOf d s x = let t = bitAnd (bitXor x (x / 2 ^ d)) s in bitXor (bitXor x t) (t * 2 ^ d % 2 ^ 64)
 

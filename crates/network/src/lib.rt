@@ -4,7 +4,7 @@ ghost use Prim.Native.Nat.{_+_, _-_, _*_, _^_, _≤_, _<_};
 ghost use mathlib.Core.Bool.{cond, true, false};
 ghost use mathlib.Core.List.{reverse};
 ghost use lib.Dec.{eqb};
-ghost use lib.ListN.{take};
+ghost use lib.ListN.{getD, take};
 ghost use Rattle.bits.specs.Bit.{ofBits};
 ghost use Rattle.bits.specs.Refusal.{logOf};
 ghost use Rattle.network.specs.Stage.{falling, rising, butterflyOf, inverseOf};
@@ -76,7 +76,7 @@ fn swaps(index: usize, column: u32) -> u64
     PAIRS[index] & !spread(index, column)
 }
 
-// internal: a stage of the table. The pairs marked in `swaps` are exchanged, all at once.
+// internal: a stage of the table. The pairs whose lower places `swaps` marks are exchanged, all at once. (No other place should be marked.)
 fn exchange(index: usize, swaps: u64, word: u64) -> u64
     requires { ⌜ index < 6 ⌝ }
     ensures { λ r. ⌜ r ≡ exchangeOf (2 ^ (5 - index)) swaps word ⌝ }
@@ -86,15 +86,27 @@ fn exchange(index: usize, swaps: u64, word: u64) -> u64
     word ^ differ ^ (differ << distance)
 }
 
-// internal: a logarithm of at most 6. The stages in use of the inverse (rising) or of the butterfly by their index in the table.
+// internal: a logarithm of at most 6, and an index of the table. The stage there, of the inverse (rising) or of the butterfly; one that is
+// not in use passes every bit.
+fn column_at(rising: bool, log: usize, stages: [u32; 6], index: usize) -> u32
+    requires { ⌜ (log ≤ 6) × (index < 6) ⌝ }
+    ensures { λ r. ⌜ r ≡ getD (byIndex rising log stages) index 0 ⌝ }
+{
+    if index < 6 - log {
+        return 0xFFFFFFFF;
+    }
+    stages[stage_at(rising, log, index)]
+}
+
+// internal: a logarithm of at most 6. All six stages by their index in the table.
 fn by_index(rising: bool, log: usize, stages: [u32; 6]) -> [u32; 6]
     requires { ⌜ log ≤ 6 ⌝ }
     ensures { λ r. ⌜ r ≡ byIndex rising log stages ⌝ }
 {
-    let mut columns = [0xFFFFFFFFu32; 6];
-    let mut index = 6 - log;
+    let mut columns = [0u32; 6];
+    let mut index: usize = 0;
     while index < 6 {
-        columns[index] = stages[stage_at(rising, log, index)];
+        columns[index] = column_at(rising, log, stages, index);
         index += 1;
     }
     columns
@@ -124,7 +136,7 @@ pub fn prepare(columns: [u32; 6]) -> [u64; 6]
     words
 }
 
-// The word through six stages, the widest first: the pairs marked in each word are exchanged.
+// The word through six stages, the widest first: the pairs whose lower places each word marks are exchanged.
 pub fn fall(words: [u64; 6], word: u64) -> u64
     ensures { λ r. ⌜ r ≡ exchangesOf (falling 6) words word ⌝ }
 {

@@ -1,4 +1,5 @@
-// The exported C functions of all calls of paper 01, declared in include/tigbayon.h: each hands its arguments to the call it is named for.
+// The exported C functions, declared in include/tigbayon.h: all calls of paper 01 ('Lines, masks, orders' to 'The register unit'), and those
+// of prepared networks. Each hands its arguments to one call.
 // No logic is here, and each promise is that call's. The host lends its register bank: it is copied out, and what the call
 // leaves is stored back.
 ghost use mathlib.Core.Path.{_≡_};

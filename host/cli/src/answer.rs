@@ -23,7 +23,8 @@ impl Answer {
     /// output may close it.
     pub fn deliver(self) -> Result<(), Failure> {
         if let Some((name, contents)) = self.file {
-            fs::write(&name, contents).map_err(|error| Failure::Unwritten(name, error))?;
+            let unwritten = |error| Failure::Unwritten(format!("{name:?}"), error);
+            fs::write(&name, contents).map_err(unwritten)?;
         }
         let mut output = io::stdout().lock();
         let written = output

@@ -164,18 +164,21 @@ impl<'a> Text<'a> {
         Ok(numbers)
     }
 
-    /// Two numbers with an equals sign between them, of the form that is named.
+    /// Two numbers with these names, and an equals sign between them.
     pub fn pair<T: TryFrom<u64>, U: TryFrom<u64>>(
         &self,
-        form: &str,
+        names: [&str; 2],
         bases: [Base; 2],
     ) -> Result<(T, U), Failure> {
-        let name = self.name;
         let Some((one, other)) = self.text.split_once('=') else {
-            return Err(unexpected(name, self.text, form));
+            return Err(unexpected(self.name, self.text, &names.join("=")));
         };
-        let [one, other] = [one, other].map(|text| Text { name, text });
-        Ok((one.number(bases[0])?, other.number(bases[1])?))
+        let [name, other_name] = names.map(|name| format!("{name} of {}", self.name));
+        let (name, text) = (name.as_str(), one);
+        let one = Text { name, text }.number(bases[0])?;
+        let (name, text) = (other_name.as_str(), other);
+        let other = Text { name, text }.number(bases[1])?;
+        Ok((one, other))
     }
 }
 

@@ -50,11 +50,14 @@ fn answer(args: &[String]) -> Result<Answer, Failure> {
     let Some((first, rest)) = args.split_first() else {
         return Err(Failure::argument("COMMAND is missing".to_string()));
     };
-    match (first.as_str(), rest) {
-        ("help", [name, ..]) => Ok(Answer::of(help::of(commands::find(name)?))),
-        ("help", []) => Ok(Answer::of(help::overall())),
-        (option, _) if HELP.contains(&option) => Ok(Answer::of(help::overall())),
-        (name, _) => perform(commands::find(name)?, rest),
+    let first = first.as_str();
+    if first != "help" && !HELP.contains(&first) {
+        return perform(commands::find(first)?, rest);
+    }
+    match rest {
+        [] => Ok(Answer::of(help::overall())),
+        [name] => Ok(Answer::of(help::of(commands::find(name)?))),
+        [_, surplus, ..] => Err(Failure::argument(format!("{surplus:?} is one too many"))),
     }
 }
 

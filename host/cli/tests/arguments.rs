@@ -73,14 +73,18 @@ fn lists() {
 
 #[test]
 fn registers() {
-    let form = "--set is \"2\", expected R=WORD, such as 2=0xB6";
+    let form = "--set is \"2\", expected R=WORD";
     assert_unread(&["run", "", "--set", "2"], form);
-    assert_unread(&["run", "", "--set", "256=1"], "--set is \"256\"");
-    assert_unread(&["run", "", "--set", "1=2=3"], "--set is \"2=3\"");
+    assert_unread(&["run", "", "--set", "256=1"], "R of --set is \"256\"");
+    assert_unread(&["run", "", "--set", "1=2=3"], "WORD of --set is \"2=3\"");
 }
 
 #[test]
 fn too_few_and_too_many() {
+    assert_unread(
+        &["help", "gather", "scatter"],
+        "\"scatter\" is one too many",
+    );
     assert_unread(&["gather", "8", "1"], "WORD is missing");
     assert_unread(&["run"], "OPERATIONS.. is missing");
     assert_unread(&["gather", "8", "1", "1", "5"], "\"5\" is one too many");

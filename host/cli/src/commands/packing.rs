@@ -82,7 +82,7 @@ pub const PACK: Command = Command {
 /// Unpack.
 pub const UNPACK: Command = Command {
     name: "unpack",
-    about: "scatters bits so laid into words A to B-1",
+    about: "scatters bits that lie end to end into words A to B-1",
     arguments: &[
         MASK,
         Argument {

@@ -44,7 +44,8 @@ Kind  Does                                                           Cycles
   9   b = controls decoded from r3                                        2
  10   r1 = r2 grouped by r3                                               3
 
-Prints how the run ended, and every register that is not zero then.
+Registers are set first, each by a call of its own. Prints how the run ended, and every
+register that is not zero then.
 ",
     refusals: &[Refusal::Length, Refusal::Kind, Refusal::Register],
     examples: &[
@@ -93,8 +94,7 @@ fn run(given: &Given) -> Result<Answer, Failure> {
     };
     let mut bank = Bank::default();
     for text in given.all("--set") {
-        let form = "R=WORD, such as 2=0xB6";
-        let (number, value) = text.pair(form, [Base::Decimal, Base::Hexadecimal])?;
+        let (number, value) = text.pair(["R", "WORD"], [Base::Decimal, Base::Hexadecimal])?;
         bank.write(number, value)?;
     }
     let run = bank.run(&operations, budget)?;
