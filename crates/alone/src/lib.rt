@@ -1,6 +1,6 @@
 // The control bits of one network alone (paper 01, 'One network').
 ghost use mathlib.Core.Path.{_≡_};
-ghost use mathlib.Core.Bool.{true, false, cond};
+ghost use mathlib.Core.Bool.{true, false};
 ghost use Prim.Native.Nat.{_^_, _≤_, _<_};
 ghost use lib.Bits.{bitOr};
 ghost use Rattle.routing.specs.Lists.{ListPermutes};

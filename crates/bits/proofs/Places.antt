@@ -1,19 +1,18 @@
 -- Laws of the marked places, of picking the bits at listed places, and of putting bits there. Assumes nothing.
 use mathlib.Core.Path.{_≡_, refl, sym, _∙_, ap, ap₂}
 use mathlib.Core.Logic.{_⊎_, inl, inr}
-use mathlib.Core.Bool.{Bool, true, false, cond}
+use mathlib.Core.Bool.{Bool, cond}
 use mathlib.Core.List.{List, [], _∷_, _++_, append-nil}
 use Prim.Native.Nat.{ℕ, zero, suc, _+_, _-_, _*_, _/_, _%_, _^_, _<_, _≤_, min}
 use native.Mathlib.Omega.{arith}
 use native.Mathlib.Decide.{decLt}
-use native.Mathlib.Nat.{not-suc-le-zero, pow-suc, pow-succ', pow-zero, div-one, div-div-eq-div-mul, mod-eq-of-lt, mul-le-mul-right, add-zero, zero-add, zero-mul, zero-min}
+use native.Mathlib.Nat.{not-suc-le-zero, pow-suc, pow-succ', div-one, div-div-eq-div-mul, mod-eq-of-lt, mul-le-mul-right, add-zero, zero-add, zero-mul, zero-min}
 use lib.Dec.{eqb}
 use borrow.Author.Tests.{eq-eqb, ne-eqb}
 use lib.ListN.{length, getD, length-append, List·getD-append}
-use lib.Seq.{getD-append-add, getD-append-seam}
-use lib.Pow.{pow-pos}
+use lib.Seq.{getD-append-seam}
 use Rattle.bits.specs.Bit.{bit, rank, ofBits, places, marked, unmarked, pick, put}
-use Rattle.bits.proofs.Word.{bit-lt, bit-cases, bit-zero, bit-suc, bit-shr, bit-mod-two, bit-ofBits, bit-ofBits-above, bit-not, bit-above, bit-cat-low, bit-cat-high, ofBits-lt}
+use Rattle.bits.proofs.Word.{bit-lt, bit-cases, bit-zero, bit-shr, bit-mod-two, bit-ofBits, bit-not, bit-above, bit-cat-low, bit-cat-high, ofBits-lt}
 use Rattle.bits.proofs.Rank.{rank-lt}
 
 -- one place more: it joins the list, or not

@@ -4,10 +4,10 @@ use mathlib.Core.Path.{_≡_, refl, sym, _∙_, ap}
 use mathlib.Core.Logic.{_⊎_, inl, inr, _↔_}
 use Prim.Native.Nat.{ℕ, zero, suc, _+_, _-_, _*_, _/_, _%_, _^_, _<_, _≤_, min, max}
 use native.Mathlib.Omega.{arith}
-use native.Mathlib.Nat.{div-one, pow-suc, pow-zero, pow-succ', mod-lt, mod-mod, mod-eq-of-lt, div-eq-of-lt, div-div-eq-div-mul, zero-div, zero-mod, div-lt-iff-lt-mul, one-mul, mul-le-mul-right, not-suc-le-zero, add-zero}
+use native.Mathlib.Nat.{div-one, pow-suc, pow-zero, pow-succ', mod-lt, mod-eq-of-lt, div-eq-of-lt, div-div-eq-div-mul, zero-div, zero-mod, div-lt-iff-lt-mul, one-mul, mul-le-mul-right, not-suc-le-zero, add-zero}
 use native.Mathlib.Decide.{decLt}
 use lib.Arith.{digits-div, digits-mod, lt-one}
-use lib.Pow.{pow-pos, pow-mono, pow-add, shr-shr, shl-shr, high, low, field, mod-mod-pow, split, ones-lt}
+use lib.Pow.{pow-pos, pow-mono, pow-add, shr-shr, high, low, field, mod-mod-pow, ones-lt}
 use lib.Bits.{bitAnd, bitOr, bitXor, differ, and-step, or-step, xor-step, and-shr, or-shr, xor-shr}
 use Rattle.bits.specs.Bit.{bit, ofBits}
 

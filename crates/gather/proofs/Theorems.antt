@@ -2,16 +2,16 @@
 use mathlib.Core.Path.{_≡_, refl, sym, _∙_, ap}
 use mathlib.Core.Logic.{_⊎_, inl, inr}
 use mathlib.Core.List.{_++_}
-use Prim.Native.Nat.{ℕ, _+_, _-_, _*_, _%_, _^_, _<_, _≤_, min}
+use Prim.Native.Nat.{ℕ, _+_, _-_, _%_, _^_, _<_, _≤_, min}
 use native.Mathlib.Omega.{arith}
 use native.Mathlib.Decide.{decLt}
 use native.Mathlib.Nat.{mod-lt}
-use lib.Bits.{bitAnd, and-lt, and-le-r}
+use lib.Bits.{bitAnd, and-le-r}
 use lib.ListN.{length, getD, length-append, List·getD-append}
 use lib.Seq.{getD-append-add}
 use lib.Pow.{pow-mono, pow-pos}
-use Rattle.bits.specs.Bit.{bit, rank, marked, unmarked, pick, put}
-use Rattle.bits.proofs.Word.{bit-lt, bit-cases, bit-and, bit-above, bit-mod, bit-mod-above, bit-not, ext}
+use Rattle.bits.specs.Bit.{bit, rank, marked, unmarked}
+use Rattle.bits.proofs.Word.{bit-lt, bit-cases, bit-and, bit-mod, bit-mod-above, bit-not, ext}
 use Rattle.bits.proofs.Rank.{rank-le, rank-lt, rank-between, rank-not, select}
 use Rattle.bits.proofs.Places.{bit-pick, bit-pick-above, pick-lt, unmarked-not, length-marked, marked-at, bit-put-marked}
 use borrow.Author.Tests.{lt-ltb}

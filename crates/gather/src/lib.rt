@@ -1,6 +1,6 @@
 // Gather, scatter and group: the bits of a word by a mask (paper 01, 'Lines, masks, orders'; demand 2).
 ghost use mathlib.Core.Path.{_≡_};
-ghost use Prim.Native.Nat.{_^_, _≤_, _<_};
+ghost use Prim.Native.Nat.{_^_, _<_};
 ghost use Rattle.gather.specs.Moves.{Parities, Moves};
 ghost use Rattle.gather.specs.Gather.{gatherOf, scatterOf, groupOf, refusalOf, byRefusal, answerOf};
 

@@ -13,7 +13,7 @@ use Rattle.bits.specs.Bit.{bit}
 use Rattle.bits.proofs.Word.{bit-ones, ext}
 use Rattle.network.specs.Stage.{source, stage, travel, falling, rising, butterflyOf, inverseOf}
 use Rattle.network.specs.Calls.{six}
-use Rattle.network.specs.Word.{swapsOf, swapsAt, exchangesOf, allPass, byIndex, distances, travelOf}
+use Rattle.network.specs.Word.{swapsOf, swapsAt, exchangesOf, allPass, byIndex, travelOf}
 use Rattle.network.proofs.Index.{place, on-places, block-lt, source-at}
 use Rattle.network.proofs.Travel.{Fits, AllFit, bit-stage, stage-lt, stage-wider, travel-lt, falling-fit, rising-fit, length-falling, length-rising, reverse-falling}
 use Rattle.network.proofs.Words.{exchange-stage}

@@ -1,20 +1,18 @@
 -- What the code's steps come to, by the table: one turn of the spreading, a stage, the place of a stage in the table, one stage more of a network.
 -- Assumes nothing.
-use mathlib.Core.Path.{_≡_, refl, sym, _∙_, ap}
-use mathlib.Core.Bool.{Bool, true, false}
-use mathlib.Core.List.{List, [], _∷_, _++_}
-use Prim.Native.Nat.{ℕ, zero, suc, _+_, _-_, _*_, _/_, _%_, _^_, _<_, _≤_}
+use mathlib.Core.Path.{_≡_, sym, _∙_, ap}
+use mathlib.Core.List.{[], _∷_, _++_}
+use Prim.Native.Nat.{ℕ, zero, suc, _+_, _-_, _*_, _%_, _^_, _<_, _≤_}
 use native.Mathlib.Omega.{arith}
 use native.Mathlib.Decide.{decLt}
 use native.Mathlib.Nat.{not-suc-le-zero, pow-succ'}
-use lib.Bits.{bitAnd, bitOr, bitXor}
-use lib.ListN.{length, getD, drop, drop-of-length-le, List·getD-append}
-use native.Mathlib.Numerals.{add-one}
+use lib.Bits.{bitAnd, bitOr}
+use lib.ListN.{getD, List·getD-append}
 use lib.Pow.{pow-mono, pow-pos}
-use lib.Seq.{drop-cons, getD-at}
-use Rattle.network.specs.Stage.{stage, travel, falling, rising}
-use Rattle.network.specs.Word.{pairs, spreadOf}
-use Rattle.network.proofs.Travel.{Fits, AllFit, fit-at, falling-fit, rising-fit, length-falling, length-rising, stage-lt, stage-wider}
+use lib.Seq.{getD-at}
+use Rattle.network.specs.Stage.{falling, rising}
+use Rattle.network.specs.Word.{spreadOf}
+use Rattle.network.proofs.Travel.{length-rising}
 use Rattle.network.proofs.Words.{spread-step}
 use Rattle.network.proofs.Table.{distanceTable, pairTable, distance-at, pair-at}
 

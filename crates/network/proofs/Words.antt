@@ -2,10 +2,9 @@
 use mathlib.Core.Path.{_≡_, refl, sym, _∙_, ap}
 use mathlib.Core.Logic.{_⊎_, inl, inr}
 use mathlib.Core.Bool.{Bool, cond}
-use Prim.Native.Nat.{ℕ, zero, suc, _+_, _-_, _*_, _/_, _%_, _^_, _<_, _≤_, min, max}
+use Prim.Native.Nat.{ℕ, zero, suc, _+_, _-_, _*_, _/_, _%_, _^_, _<_, min, max}
 use native.Mathlib.Omega.{arith}
-use native.Mathlib.Decide.{decLt}
-use native.Mathlib.Nat.{mod-lt, mod-eq-of-lt}
+use native.Mathlib.Nat.{mod-lt}
 use lib.Dec.{eqb}
 use lib.Bits.{bitAnd, bitOr, bitXor, xor-lt, and-le-l, and-le-r}
 use lib.Pow.{pow-pos}
@@ -15,7 +14,7 @@ use Rattle.bits.proofs.Word.{digit, bit-lt, bit-cases, bit-mod-two, bit-and, bi
 use Rattle.network.specs.Stage.{switchOf, source, stage}
 use Rattle.network.specs.Word.{atLower, pairs, spreadOf, swapsOf, exchangeOf}
 use Rattle.network.proofs.Index.{place, on-places, side-of, switch-at, source-at}
-use Rattle.network.proofs.Travel.{Fits, bit-stage, stage-lt}
+use Rattle.network.proofs.Travel.{bit-stage, stage-lt}
 
 shl-above : (x d q : ℕ) → d + q < 64 → bit (x * 2 ^ d % 2 ^ 64) (d + q) ≡ bit x q
 shl-above x d q h = bit-shl-from x d (d + q) q h refl

@@ -1,6 +1,6 @@
 -- The decoder of paper 01, from a mask to the controls of both networks. Assumes nothing.
 use Prim.Native.Nat.{ℕ, zero, suc, _+_, _-_, _*_, _/_, _%_, _^_}
-use mathlib.Core.List.{List, [], _∷_, map, reverse}
+use mathlib.Core.List.{List, map, reverse}
 use Rattle.bits.specs.Bit.{bit, ofBits, rank}
 use Rattle.network.specs.Stage.{falling}
 

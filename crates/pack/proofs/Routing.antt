@@ -1,20 +1,16 @@
 -- A network on the controls decoded for a mask gathers and scatters by it: mask routing at six stages. Assumes nothing.
-use mathlib.Core.Path.{_≡_, refl, sym, _∙_, ap}
-use mathlib.Core.List.{List, _++_, append-nil, reverse, reverse-reverse}
+use mathlib.Core.Path.{_≡_, sym, _∙_, ap}
+use mathlib.Core.List.{List, reverse, reverse-reverse}
 use Prim.Native.Nat.{ℕ, _-_, _^_, _<_}
 use native.Mathlib.Omega.{arith}
 use lib.Bits.{bitAnd, and-le-r}
-use lib.ListN.{length, take, replicate, length-reverse}
+use lib.ListN.{length, take, length-reverse}
 use lib.Seq.{take-all}
-use borrow.Author.Tests.{lt-ltb}
 use Rattle.gather.specs.Gather.{gatherOf, scatterOf}
-use Rattle.network.specs.declared.Decoded.{Decoded}
 use Rattle.network.specs.Stage.{falling, rising, butterflyOf, inverseOf}
 use Rattle.network.specs.Decoder.{decodeOf, decodeInverseOf}
 use Rattle.network.specs.Word.{swapsAt, exchangesOf, travelOf}
-use Rattle.network.specs.Calls.{six, decodeAnswer}
 use Rattle.network.proofs.Routing.{length-decode, mask-routing-gather, mask-routing-scatter}
-use Rattle.network.proofs.Calls.{decode-refusal-by, decode-done}
 use Rattle.network.proofs.Six.{carry-fall, carry-rise}
 use Rattle.pack.specs.Cursor.{routesOf}
 

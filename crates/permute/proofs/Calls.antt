@@ -2,19 +2,18 @@
 use mathlib.Core.Path.{_≡_, refl, sym, _∙_, ap, ap₂}
 use mathlib.Core.Bool.{Bool, true, false, not, cond}
 use mathlib.Core.List.{List, [], _∷_}
-use Prim.Native.Nat.{ℕ, _^_, _<_, _≤_}
+use Prim.Native.Nat.{ℕ, _^_, _≤_}
 use native.Mathlib.Omega.{arith}
 use lib.Dec.{eqb}
 use lib.ListN.{length}
-use borrow.Author.Tests.{eq-eqb, ne-eqb, eqb-true}
+use borrow.Author.Tests.{ne-eqb, eqb-true}
 use Rattle.bits.specs.Refusal.{logOf, accepted, lowest, IsLowest}
 use Rattle.bits.proofs.Refusals.{log-width, log-le, lowest-law}
 use Rattle.network.specs.Calls.{six, controls}
-use Rattle.routing.specs.Lists.{ListPermutes, firstWords}
-use Rattle.permute.specs.declared.Routed.{Routed}
+use Rattle.routing.specs.Lists.{ListPermutes}
 use Rattle.permute.specs.declared.RoutedOne.{RoutedOne}
 use Rattle.permute.specs.Permutation.{namesOnce}
-use Rattle.permute.specs.Calls.{routeConditions, routeRefusal, routeAnswer, oneConditions, oneRefusal, oneAnswer}
+use Rattle.permute.specs.Calls.{routeConditions, routeRefusal, oneConditions, oneRefusal, oneAnswer}
 use Rattle.permute.proofs.Names.{names-permutes}
 
 abbrev byTests : Bool → Bool → Bool → ℕ

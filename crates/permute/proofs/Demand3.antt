@@ -1,27 +1,27 @@
 -- Demand 3, from mask routing and first controls. Assumes nothing.
-use mathlib.Core.Path.{_≡_, refl, sym, _∙_, ap, subst}
-use mathlib.Core.Bool.{Bool, true}
+use mathlib.Core.Path.{_≡_, sym, _∙_, ap, subst}
+use mathlib.Core.Bool.{true}
 use mathlib.Core.List.{List}
-use Prim.Native.Nat.{ℕ, _-_, _^_, _<_, _≤_}
+use Prim.Native.Nat.{ℕ, _-_, _^_, _<_}
 use native.Mathlib.Omega.{arith}
-use lib.ListN.{length, take, replicate}
+use lib.ListN.{length, replicate}
 use lib.Seq.{take-at}
 use borrow.Author.Tests.{eq-eqb, lt-ltb}
 use Rattle.bits.specs.Bit.{pick}
 use Rattle.bits.specs.Refusal.{logOf, accepted}
-use Rattle.bits.proofs.Refusals.{log-width, log-le}
+use Rattle.bits.proofs.Refusals.{log-width}
 use Rattle.gather.specs.Gather.{refusalOf}
 use Rattle.gather.proofs.Calls.{refusal-by}
 use Rattle.network.specs.Stage.{butterflyOf, inverseOf}
-use Rattle.network.specs.Calls.{six, controls, carryAnswer}
+use Rattle.network.specs.Calls.{controls, carryAnswer}
 use Rattle.network.specs.declared.Carried.{Carried}
 use Rattle.network.proofs.Routing.{mask-routing-scatter, mask-routing-gather, butterfly-lt}
 use Rattle.network.proofs.CallRouting.{calls-route-scatter, calls-route-gather, on-stages, butterfly-own, inverse-own}
 use Rattle.routing.specs.Lists.{Words, firstWords}
 use Rattle.permute.specs.declared.Routed.{Routed}
-use Rattle.permute.specs.Permutation.{Uses, namesOnce}
+use Rattle.permute.specs.Permutation.{namesOnce}
 use Rattle.permute.specs.First.{First}
-use Rattle.permute.specs.Calls.{routeRefusal, routeAnswer, stagesIn}
+use Rattle.permute.specs.Calls.{routeAnswer, stagesIn}
 use Rattle.permute.specs.Demand3.{Demand3, Demand3Calls}
 use Rattle.permute.proofs.Order.{first-controls}
 use Rattle.permute.proofs.Names.{names-permutes}

@@ -1,23 +1,20 @@
 -- The first controls of crate routing, as words: they are the first controls in the sense of demand 3. Assumes nothing.
-use mathlib.Core.Path.{_≡_, refl, sym, _∙_, ap, ap₂, subst}
+use mathlib.Core.Path.{_≡_, refl, sym, _∙_, ap}
 use mathlib.Core.Logic.{_⊎_, inl, inr}
 use mathlib.Core.Bool.{Bool, true, false, cond, true≢false}
-use mathlib.Core.List.{List, [], _∷_, _++_}
-use Prim.Native.Nat.{ℕ, zero, suc, _+_, _-_, _*_, _/_, _%_, _^_, _<_, _≤_}
+use mathlib.Core.List.{List}
+use Prim.Native.Nat.{ℕ, zero, suc, _+_, _-_, _/_, _%_, _^_, _<_}
 use native.Mathlib.Omega.{arith}
-use native.Mathlib.Decide.{decLt}
-use lib.Dec.{eqb}
 use lib.ListN.{length, getD, List·getD-append}
 use lib.Seq.{ext-getD, getD-append-add}
-use borrow.Author.Tests.{eqb-true, eqb-false, eq-eqb, ne-eqb}
+use borrow.Author.Tests.{eqb-true, eq-eqb, ne-eqb}
 use Rattle.bits.specs.Bit.{bit}
-use Rattle.bits.proofs.Word.{bit-lt, bit-cases, ext}
+use Rattle.bits.proofs.Word.{bit-cases, ext}
 use Rattle.routing.specs.Loop.{pass, swap}
-use Rattle.routing.specs.Stages.{Stage, Butterfly, Inverse, exponent, InRange, Agree}
+use Rattle.routing.specs.Stages.{Butterfly, Inverse}
 use Rattle.routing.specs.Stages as place
-use Rattle.routing.specs.FirstControls.{IsFirst}
-use Rattle.routing.specs.Lists.{Words, ListPermutes, entry, wordOf, controlIn, butterflyWords, inverseWords, butterflyFrom, inverseFrom, wordsOf, fromWords, controlsOf, firstWords}
-use Rattle.routing.proofs.Words.{word-small, word-bit, butterfly-word, inverse-word, words-cong, first-words}
+use Rattle.routing.specs.Lists.{Words, wordOf, controlIn, butterflyWords, inverseWords, butterflyFrom, inverseFrom, wordsOf, fromWords}
+use Rattle.routing.proofs.Words.{word-small, word-bit, butterfly-word, inverse-word}
 use Rattle.permute.specs.Permutation.{Uses}
 use Rattle.permute.specs.First.{travelled, Controls}
 

@@ -11,13 +11,12 @@ use native.Mathlib.Numerals.{add-one}
 use lib.Bits.{bitOr}
 use lib.Dec.{eqb, ltb}
 use lib.ListN.{length, getD, drop}
-use lib.Pow.{pow-lt}
 use lib.Seq.{drop-cons, drop-length}
-use borrow.Author.Tests.{ltb-true, lt-ltb, le-ltb, eqb-true, eqb-false, eq-eqb, ne-eqb}
+use borrow.Author.Tests.{ltb-true, lt-ltb, le-ltb, eq-eqb, ne-eqb}
 use Rattle.bits.specs.Bit.{bit}
 use Rattle.bits.proofs.Word.{bit-cases, bit-lt, bit-or, bit-of-zero}
 use Rattle.network.proofs.Columns.{shl-one}
-use Rattle.routing.specs.Lists.{ListPermutes, entry}
+use Rattle.routing.specs.Lists.{ListPermutes}
 use Rattle.permute.specs.Permutation.{absent, namesOnce}
 use Rattle.permute.proofs.Realised.{bit-pow, bit-pow-only}
 

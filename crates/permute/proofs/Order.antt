@@ -1,17 +1,15 @@
 -- The order on controls as words is that on stages and switches of crate routing; so the first words are first. Assumes nothing.
-use mathlib.Core.Path.{_≡_, refl, sym, _∙_, ap, ap₂}
+use mathlib.Core.Path.{_≡_, sym, _∙_, ap, ap₂}
 use mathlib.Core.Logic.{_⊎_, inl, inr}
-use mathlib.Core.Bool.{Bool, true, false}
 use mathlib.Core.List.{List}
-use Prim.Native.Nat.{ℕ, zero, suc, _+_, _-_, _/_, _^_, _<_, _≤_}
+use Prim.Native.Nat.{ℕ, zero, suc, _+_, _-_, _/_, _^_, _<_}
 use native.Mathlib.Omega.{arith}
 use native.Mathlib.Decide.{decLt}
 use lib.ListN.{length, getD}
-use Rattle.routing.specs.Stages.{Stage, Butterfly, Inverse, exponent, InRange, Agree}
+use Rattle.routing.specs.Stages.{Stage, Butterfly, Inverse, exponent, Agree}
 use Rattle.routing.specs.Stages as place
-use Rattle.routing.specs.Lists.{Words, ListPermutes, entry, controlIn, butterflyFrom, inverseFrom, wordsOf, fromWords, controlsOf, firstWords}
+use Rattle.routing.specs.Lists.{Words, ListPermutes, controlIn, butterflyFrom, inverseFrom, fromWords, controlsOf, firstWords}
 use Rattle.routing.proofs.Words.{words-cong, first-words}
-use Rattle.permute.specs.Permutation.{Realises}
 use Rattle.permute.specs.First.{travelled, control, Controls, Before, Later, First}
 use Rattle.permute.proofs.Realised.{brings-realises, realises-brings}
 use Rattle.permute.proofs.FirstWords.{travelled-butterfly, travelled-inverse, zero-control, one-control, same-control, words-used, words-back}

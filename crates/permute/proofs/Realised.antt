@@ -1,13 +1,11 @@
 -- What controls do to every word, and the places that they bring bits from. Assumes nothing.
-use mathlib.Core.Path.{_≡_, refl, sym, _∙_, ap}
-use mathlib.Core.Logic.{_⊎_, inl, inr}
+use mathlib.Core.Path.{_≡_, sym, _∙_, ap}
 use mathlib.Core.List.{List}
-use Prim.Native.Nat.{ℕ, zero, suc, _+_, _-_, _*_, _^_, _<_, _≤_}
+use Prim.Native.Nat.{ℕ, suc, _+_, _-_, _*_, _^_, _<_}
 use native.Mathlib.Omega.{arith}
-use native.Mathlib.Decide.{decLt, ℕ-discrete}
-use native.Mathlib.Nat.{one-mul}
-use lib.ListN.{length, getD}
-use lib.Pow.{pow-lt, pow-mono}
+use native.Mathlib.Decide.{decLt}
+use lib.ListN.{length}
+use lib.Pow.{pow-lt}
 use Rattle.bits.specs.Bit.{bit, pick}
 use Rattle.bits.proofs.Word.{bit-shl-low, bit-shl-high, bit-above, bit-zero, ext}
 use Rattle.bits.proofs.Places.{bit-pick, pick-lt}
@@ -17,7 +15,7 @@ use Rattle.network.proofs.Routing.{butterfly-lt, inverse-lt}
 use Rattle.routing.specs.Stages.{network}
 use Rattle.routing.specs.FirstControls.{Brings}
 use Rattle.routing.specs.Lists.{Words, entry, fromWords}
-use Rattle.permute.specs.Permutation.{Realises, RealisesAlone}
+use Rattle.permute.specs.Permutation.{Realises}
 use Rattle.permute.proofs.Sources.{network-origin}
 
 -- a word with one bit set tells that bit's place

@@ -1,7 +1,7 @@
 -- The networks of crate network and those of crate routing move bits alike: the place that each place's bit comes from. Assumes nothing.
 use mathlib.Core.Path.{_≡_, refl, sym, _∙_, ap, ap₂}
 use mathlib.Core.Logic.{_⊎_, inl, inr}
-use mathlib.Core.Bool.{Bool, true, false, cond}
+use mathlib.Core.Bool.{Bool, cond}
 use mathlib.Core.List.{List, [], _∷_, _++_}
 use Prim.Native.Nat.{ℕ, zero, suc, _+_, _-_, _*_, _/_, _%_, _^_, _<_, _≤_}
 use native.Mathlib.Omega.{arith}
@@ -9,13 +9,12 @@ use native.Mathlib.Nat.{pow-suc, div-div-eq-div-mul}
 use lib.Dec.{eqb}
 use lib.ListN.{length, getD, take}
 use lib.Seq.{take-suc, take-length, length-take-le}
-use borrow.Author.Tests.{eq-eqb, ne-eqb}
 use Rattle.bits.specs.Bit.{bit}
 use Rattle.bits.proofs.Word.{bit-cases}
-use Rattle.network.specs.Stage.{falling, rising, butterflyOf, inverseOf}
+use Rattle.network.specs.Stage.{falling, rising}
 use Rattle.network.specs.Stage as word
-use Rattle.network.proofs.Travel.{origin, origin-below, bit-travel, travel-lt, falling-fit, rising-fit, length-rising}
-use Rattle.routing.specs.Stages.{through, network, Butterfly, Inverse}
+use Rattle.network.proofs.Travel.{origin, length-rising}
+use Rattle.routing.specs.Stages.{through, network}
 use Rattle.routing.specs.Stages as place
 use Rattle.routing.specs.Lists.{Words, controlIn, butterflyFrom, inverseFrom, fromWords}
 

@@ -6,7 +6,7 @@ use Prim.Native.Nat.{ℕ, _^_, _<_}
 use lib.Bits.{bitAnd}
 use lib.ListN.{length}
 use Rattle.bits.specs.Bit.{pick}
-use Rattle.bits.specs.Refusal.{logOf, accepted}
+use Rattle.bits.specs.Refusal.{logOf}
 use Rattle.gather.specs.Gather.{gatherOf, scatterOf, answerOf}
 use Rattle.network.specs.Stage.{butterflyOf, inverseOf}
 use Rattle.network.specs.Decoder.{decodeOf, decodeInverseOf}

@@ -2,16 +2,16 @@
 use mathlib.Core.Path.{_≡_, refl, sym, _∙_, ap, ap₂}
 use mathlib.Core.Bool.{Bool, true, false, not, cond, _||_, or-assoc}
 use mathlib.Core.List.{List, [], _∷_}
-use Prim.Native.Nat.{ℕ, suc, _+_, _*_, _%_, _<_, _≤_}
+use Prim.Native.Nat.{ℕ, suc, _+_, _%_, _<_, _≤_}
 use native.Mathlib.Omega.{arith}
-use lib.Dec.{eqb, leb, ltb}
+use lib.Dec.{eqb, leb}
 use lib.ListN.{length, getD, drop, drop-of-length-le}
 use lib.Seq.{drop-cons}
 use borrow.Author.Tests.{eqb-true, leb-true, eq-eqb, le-leb}
 use Rattle.bits.specs.Refusal.{lowest, IsLowest}
 use Rattle.bits.proofs.Refusals.{lowest-law}
 use Rattle.unit.specs.Operation.{isKind, usedOf, areRegisters, operationRefusal}
-use Rattle.unit.specs.Run.{Operation, operationsOf, anyKind, anyRegister, lowerOf, operationsConditions, operationsRefusal, runConditions, runRefusal}
+use Rattle.unit.specs.Run.{Operation, operationsOf, anyKind, anyRegister, lowerOf, operationsRefusal, runConditions, runRefusal}
 
 -- the operation at byte i
 abbrev pub operationAt : List ℕ → ℕ → Operation

@@ -1,16 +1,14 @@
 -- A run as one goes through its operations. Assumes nothing.
-use mathlib.Core.Path.{_≡_, refl, sym, _∙_, ap}
-use mathlib.Core.Bool.{Bool, true, false, cond}
+use mathlib.Core.Path.{_≡_, refl, sym, ap}
+use mathlib.Core.Bool.{Bool, cond}
 use mathlib.Core.List.{List, [], _∷_}
-use Prim.Native.Nat.{ℕ, zero, suc, _+_, _-_, _<_, _≤_}
+use Prim.Native.Nat.{ℕ, suc, _+_, _-_, _<_, _≤_}
 use native.Mathlib.Omega.{arith}
-use lib.Dec.{leb, ltb}
 use lib.ListN.{length, take}
 use borrow.Author.Tests.{le-leb, lt-leb, lt-ltb, le-ltb}
 use Rattle.unit.specs.declared.Bank.{Bank}
-use Rattle.unit.specs.declared.Ran.{Ran}
 use Rattle.unit.specs.Operation.{cyclesOf, stepOf}
-use Rattle.unit.specs.Run.{Operation, stepsOf, sumOf, ranOf, endOf, endedOf, outcomeOf}
+use Rattle.unit.specs.Run.{Operation, stepsOf, sumOf, ranOf, endedOf, outcomeOf}
 
 module _ (left : ℕ) (o : Operation) (os : List Operation) where
   pub ran-fits : cyclesOf (o .0) ≤ left → ranOf left (o ∷ os) ≡ suc (ranOf (left - cyclesOf (o .0)) os)

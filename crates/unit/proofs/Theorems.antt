@@ -1,22 +1,20 @@
 -- The register unit's theorems, over its definitions. Assumes nothing.
 use mathlib.Core.Path.{_≡_, refl, sym, _∙_, ap}
 use mathlib.Core.Bool.{Bool, true, false, not, cond, _||_, false≢true}
-use mathlib.Core.List.{List, [], _∷_, map, reverse}
-use Prim.Native.Nat.{ℕ, zero, suc, _+_, _-_, _^_, _<_, _≤_}
+use mathlib.Core.List.{List, [], _∷_}
+use Prim.Native.Nat.{ℕ, suc, _-_, _^_, _<_, _≤_}
 use native.Mathlib.Omega.{arith}
 use native.Mathlib.Decide.{decLt}
 use lib.Bits.{bitAnd}
-use lib.Dec.{eqb, ltb}
+use lib.Dec.{eqb}
 use lib.ListN.{length, set, take}
 use lib.Seq.{take-length}
 use borrow.Author.Tests.{eq-eqb, le-ltb, not-false}
-use Rattle.gather.specs.Gather.{gatherOf, scatterOf}
 use Rattle.network.specs.Stage.{falling, butterflyOf, inverseOf}
-use Rattle.network.specs.Decoder.{column, decodeOf, decodeInverseOf}
+use Rattle.network.specs.Decoder.{decodeOf, decodeInverseOf}
 use Rattle.network.proofs.Routing.{column-lt, mask-routing-gather, mask-routing-scatter}
 use Rattle.unit.specs.declared.Bank.{Bank}
 use Rattle.unit.specs.declared.Ran.{Ran}
-use Rattle.unit.specs.declared.Operated.{Operated}
 use Rattle.unit.specs.Bank.{register, stagesOf, packedOf}
 use Rattle.unit.specs.Operation.{cyclesOf, isKind, usedOf, areRegisters, operationRefusal, stepOf}
 use Rattle.unit.specs.Calls.{operateOf}

@@ -12,10 +12,6 @@ use Rattle.alone.proofs.Calls.{met-turn, met-none, met-all}
 use borrow.Author.Needs.{needs}
 use Rattle.alone.proofs.agreed.Statement.{statement}
 use Rattle.alone.proofs.agreed.Tie as tie
-use Rattle.alone.proofs.agreed.Reads as reads
-use Rattle.alone.proofs.agreed.Lts as lts
-use Rattle.alone.proofs.asked_of.Reads as asked-of-reads
-use Rattle.alone.proofs.stage_at.Reads as stage-at-reads
 
 abbrev Inv-loop : tie.InvT-loop
 Inv-loop rising log routes places sources stages₀ at₀ stages at =

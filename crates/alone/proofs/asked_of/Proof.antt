@@ -10,9 +10,6 @@ use Rattle.alone.proofs.Steps.{none-asked, stage-turn}
 use borrow.Author.Needs.{needs}
 use Rattle.alone.proofs.asked_of.Statement.{statement}
 use Rattle.alone.proofs.asked_of.Tie as tie
-use Rattle.alone.proofs.asked_of.Reads as reads
-use Rattle.alone.proofs.asked_of.Lts as lts
-use Rattle.alone.proofs.with_route.Reads as with-route-reads
 
 abbrev Inv-loop : tie.InvT-loop
 Inv-loop log routes places sources exponent asked₀ at₀ asked at =

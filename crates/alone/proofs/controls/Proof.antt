@@ -5,10 +5,6 @@ use Rattle.alone.proofs.Calls.{every-within, entries-within, answer-inv
 use borrow.Author.Needs.{needs}
 use Rattle.alone.proofs.controls.Statement.{statement}
 use Rattle.alone.proofs.controls.Tie as tie
-use Rattle.alone.proofs.controls.Reads as reads
-use Rattle.alone.proofs.controls.Lts as lts
-use Rattle.alone.proofs.agreed.Reads as agreed-reads
-use Rattle.alone.proofs.every_place.Reads as every-place-reads
 
 every-place-requires : tie.Need-every-place-requires
 every-place-requires c κs = search needs

@@ -1,5 +1,5 @@
 -- `alone::every_place` meets its contract. Assumes nothing.
-use mathlib.Core.Path.{_≡_, refl, sym, ap, _∙_}
+use mathlib.Core.Path.{_≡_, refl}
 use Prim.Native.Nat.{ℕ, _-_, _≤_, _<_}
 use native.Mathlib.Omega.{arith}
 use lib.ListN.{length}
@@ -8,8 +8,6 @@ use Rattle.alone.proofs.Steps.{place-turn}
 use borrow.Author.Needs.{needs}
 use Rattle.alone.proofs.every_place.Statement.{statement}
 use Rattle.alone.proofs.every_place.Tie as tie
-use Rattle.alone.proofs.every_place.Reads as reads
-use Rattle.alone.proofs.every_place.Lts as lts
 
 abbrev Inv-loop : tie.InvT-loop
 Inv-loop places₀ at₀ places at = (at ≤ 64) × (length places ≡ 64) × ((p : ℕ) → p < at → entry places p ≡ p)

@@ -2,8 +2,6 @@
 use borrow.Author.Needs.{needs}
 use Rattle.alone.proofs.stage_at.Statement.{statement}
 use Rattle.alone.proofs.stage_at.Tie as tie
-use Rattle.alone.proofs.stage_at.Reads as reads
-use Rattle.alone.proofs.stage_at.Lts as lts
 
 returns : tie.Need-returns
 returns c = search needs

@@ -4,8 +4,6 @@ use Rattle.alone.proofs.Steps.{switch-is, distance-pos}
 use borrow.Author.Needs.{needs}
 use Rattle.alone.proofs.switch_of.Statement.{statement}
 use Rattle.alone.proofs.switch_of.Tie as tie
-use Rattle.alone.proofs.switch_of.Reads as reads
-use Rattle.alone.proofs.switch_of.Lts as lts
 
 shl-distance : tie.Need-shl-distance
 shl-distance c = search needs

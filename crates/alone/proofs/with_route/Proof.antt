@@ -3,9 +3,6 @@ use Rattle.alone.proofs.Steps.{route-passes, route-swaps}
 use borrow.Author.Needs.{needs}
 use Rattle.alone.proofs.with_route.Statement.{statement}
 use Rattle.alone.proofs.with_route.Tie as tie
-use Rattle.alone.proofs.with_route.Reads as reads
-use Rattle.alone.proofs.with_route.Lts as lts
-use Rattle.alone.proofs.switch_of.Reads as switch-of-reads
 
 switch-of-requires : tie.Need-switch-of-requires
 switch-of-requires c κs = search needs

@@ -5,9 +5,6 @@ use lib.ListN.{length}
 use borrow.Author.Needs.{needs}
 use Rattle.examples_main.proofs.line.Statement.{statement}
 use Rattle.examples_main.proofs.line.Tie as tie
-use Rattle.examples_main.proofs.line.Reads as reads
-use Rattle.examples_main.proofs.line.Lts as lts
-use Rattle.examples_main.proofs.hex_digit.Reads as hex-digit-reads
 
 abbrev Inv-loop : tie.InvT-loop
 Inv-loop row word text₀ rest₀ at₀ text rest at = (at ≤ 19) × (length text ≡ 20)

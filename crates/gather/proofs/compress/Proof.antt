@@ -7,9 +7,6 @@ use lib.Bits.{bitAnd, and-le-r}
 use Rattle.gather.proofs.Routes.{Pushed, pushed-none, pushed-next, pushed-all, distance, distance-lt}
 use Rattle.gather.proofs.compress.Statement.{statement}
 use Rattle.gather.proofs.compress.Tie as tie
-use Rattle.gather.proofs.compress.Reads as reads
-use Rattle.gather.proofs.compress.Lts as lts
-use Rattle.gather.proofs.moves.Reads as moves-reads
 
 abbrev Inv-loop : tie.InvT-loop
 Inv-loop mask word words out₀ i₀ out i = (i ≤ 6) × Pushed mask (bitAnd word mask) i out

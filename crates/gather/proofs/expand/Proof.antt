@@ -7,9 +7,6 @@ use borrow.Author.Needs.{needs}
 use Rattle.gather.proofs.Routes.{Pulled, pulled-all, pulled-next, pulled-none, distance, distance-lt}
 use Rattle.gather.proofs.expand.Statement.{statement}
 use Rattle.gather.proofs.expand.Tie as tie
-use Rattle.gather.proofs.expand.Reads as reads
-use Rattle.gather.proofs.expand.Lts as lts
-use Rattle.gather.proofs.moves.Reads as moves-reads
 
 abbrev Inv-loop : tie.InvT-loop
 Inv-loop mask word words out₀ i₀ out i = (i ≤ 6) × Pulled mask word i out

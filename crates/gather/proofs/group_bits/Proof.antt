@@ -6,8 +6,6 @@ use Rattle.gather.proofs.Steps.{group-sum, group-all}
 use Rattle.gather.proofs.Theorems.{group-below}
 use Rattle.gather.proofs.group_bits.Statement.{statement}
 use Rattle.gather.proofs.group_bits.Tie as tie
-use Rattle.gather.proofs.group_bits.Reads as reads
-use Rattle.gather.proofs.group_bits.Lts as lts
 
 compress-requires : tie.Need-compress-requires
 compress-requires c κs = search needs

@@ -9,9 +9,6 @@ use Rattle.gather.specs.Moves.{Moves}
 use Rattle.gather.proofs.Gaps.{Halved, halved-none, halved-next, moves-none, moves-next}
 use Rattle.gather.proofs.moves.Statement.{statement}
 use Rattle.gather.proofs.moves.Tie as tie
-use Rattle.gather.proofs.moves.Reads as reads
-use Rattle.gather.proofs.moves.Lts as lts
-use Rattle.gather.proofs.parities.Reads as parities-reads
 
 abbrev Inv-loop : tie.InvT-loop
 Inv-loop mask words₀ ones₀ i₀ words ones i = (i ≤ 6) × (length words ≡ 6) × Halved mask i ones × Moves mask i words

@@ -2,8 +2,6 @@
 use Rattle.gather.proofs.Gaps.{sums-one, sums-double, sums-all}
 use Rattle.gather.proofs.parities.Statement.{statement}
 use Rattle.gather.proofs.parities.Tie as tie
-use Rattle.gather.proofs.parities.Reads as reads
-use Rattle.gather.proofs.parities.Lts as lts
 
 returns : tie.Need-returns
 returns c = sums-all (sums-double (sums-double (sums-double (sums-double (sums-double (sums-double sums-one))))))

@@ -1,14 +1,11 @@
 -- `gather::refusal` meets its contract: its tests are those of the list, in order. Assumes nothing.
 use mathlib.Core.Path.{refl, sym, _∙_}
-use mathlib.Core.Bool.{true, false}
 use borrow.Author.Needs.{needs}
 use borrow.Author.Tests.{not-true, not-false}
 use Rattle.bits.proofs.Refusals.{not-width, is-width}
 use Rattle.gather.proofs.Calls.{refusal-by}
 use Rattle.gather.proofs.refusal.Statement.{statement}
 use Rattle.gather.proofs.refusal.Tie as tie
-use Rattle.gather.proofs.refusal.Reads as reads
-use Rattle.gather.proofs.refusal.Lts as lts
 
 log-of-requires : tie.Need-log-of-requires
 log-of-requires c κs = search needs

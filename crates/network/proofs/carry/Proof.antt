@@ -8,12 +8,6 @@ use Rattle.network.proofs.Six.{carry-fall, carry-rise}
 use borrow.Author.Needs.{needs}
 use Rattle.network.proofs.carry.Statement.{statement}
 use Rattle.network.proofs.carry.Tie as tie
-use Rattle.network.proofs.carry.Reads as reads
-use Rattle.network.proofs.carry.Lts as lts
-use Rattle.network.proofs.by_index.Reads as by-index-reads
-use Rattle.network.proofs.fall.Reads as fall-reads
-use Rattle.network.proofs.prepare.Reads as prepare-reads
-use Rattle.network.proofs.rise.Reads as rise-reads
 
 by-index-requires : tie.Need-by-index-requires
 by-index-requires c κs = search needs

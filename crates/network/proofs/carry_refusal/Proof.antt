@@ -9,11 +9,6 @@ use Rattle.network.proofs.Calls.{carry-refusal-by}
 use borrow.Author.Needs.{needs}
 use Rattle.network.proofs.carry_refusal.Statement.{statement}
 use Rattle.network.proofs.carry_refusal.Tie as tie
-use Rattle.network.proofs.carry_refusal.Reads as reads
-use Rattle.network.proofs.carry_refusal.Lts as lts
-use Rattle.bits.proofs.is_within.Reads as is-within-reads
-use Rattle.bits.proofs.log_of.Reads as log-of-reads
-use Rattle.network.proofs.is_used_only.Reads as is-used-only-reads
 
 log-of-requires : tie.Need-log-of-requires
 log-of-requires c κs = search needs

@@ -5,12 +5,6 @@ use Rattle.network.proofs.Calls.{decode-refused, decode-done}
 use borrow.Author.Needs.{needs}
 use Rattle.network.proofs.decode.Statement.{statement}
 use Rattle.network.proofs.decode.Tie as tie
-use Rattle.network.proofs.decode.Reads as reads
-use Rattle.network.proofs.decode.Lts as lts
-use Rattle.bits.proofs.log_of.Reads as log-of-reads
-use Rattle.network.proofs.decode_refusal.Reads as decode-refusal-reads
-use Rattle.network.proofs.decode_stages.Reads as decode-stages-reads
-use Rattle.network.proofs.reversed.Reads as reversed-reads
 
 decode-refusal-requires : tie.Need-decode-refusal-requires
 decode-refusal-requires c κs = search needs

@@ -6,10 +6,6 @@ use Rattle.network.proofs.Calls.{decode-refusal-by}
 use borrow.Author.Needs.{needs}
 use Rattle.network.proofs.decode_refusal.Statement.{statement}
 use Rattle.network.proofs.decode_refusal.Tie as tie
-use Rattle.network.proofs.decode_refusal.Reads as reads
-use Rattle.network.proofs.decode_refusal.Lts as lts
-use Rattle.bits.proofs.is_within.Reads as is-within-reads
-use Rattle.bits.proofs.log_of.Reads as log-of-reads
 
 log-of-requires : tie.Need-log-of-requires
 log-of-requires c κs = search needs

@@ -9,9 +9,6 @@ use Rattle.network.proofs.Routing.{length-decode}
 use borrow.Author.Needs.{needs}
 use Rattle.network.proofs.decode_stages.Statement.{statement}
 use Rattle.network.proofs.decode_stages.Tie as tie
-use Rattle.network.proofs.decode_stages.Reads as reads
-use Rattle.network.proofs.decode_stages.Lts as lts
-use Rattle.network.proofs.stage_bits.Reads as stage-bits-reads
 
 abbrev Inv-loop : tie.InvT-loop
 Inv-loop log mask stages₀ at₀ stages at = (at ≤ log) × (stages ≡ filled 0 at (decodeOf log mask))

@@ -5,8 +5,6 @@ use Rattle.network.proofs.Steps.{distance-lt}
 use borrow.Author.Needs.{needs}
 use Rattle.network.proofs.exchange.Statement.{statement}
 use Rattle.network.proofs.exchange.Tie as tie
-use Rattle.network.proofs.exchange.Reads as reads
-use Rattle.network.proofs.exchange.Lts as lts
 
 mul-distance : tie.Need-mul-distance
 mul-distance c = search needs

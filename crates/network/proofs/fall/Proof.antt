@@ -1,6 +1,6 @@
 -- `network::fall` meets its contract. Assumes nothing.
-use mathlib.Core.Path.{_≡_, refl, sym, _∙_, ap}
-use Prim.Native.Nat.{ℕ, _+_, _-_, _^_, _≤_, _<_}
+use mathlib.Core.Path.{_≡_, refl, sym, _∙_}
+use Prim.Native.Nat.{_-_, _≤_}
 use native.Mathlib.Omega.{arith}
 use lib.ListN.{drop}
 use Rattle.network.specs.Stage.{falling}
@@ -10,9 +10,6 @@ use Rattle.network.proofs.SixSteps.{fall-turn, exchanges-end}
 use borrow.Author.Needs.{needs}
 use Rattle.network.proofs.fall.Statement.{statement}
 use Rattle.network.proofs.fall.Tie as tie
-use Rattle.network.proofs.fall.Reads as reads
-use Rattle.network.proofs.fall.Lts as lts
-use Rattle.network.proofs.exchange.Reads as exchange-reads
 
 abbrev Inv-loop : tie.InvT-loop
 Inv-loop word words carried₀ index₀ carried index = (index ≤ 6) × (exchangesOf (drop index (falling 6)) (drop index words) carried ≡ exchangesOf (falling 6) words word)

@@ -1,7 +1,6 @@
 -- `network::is_used_only` meets its contract. Assumes nothing.
-use mathlib.Core.Path.{_≡_, sym, _∙_, ap}
-use Prim.Native.Nat.{ℕ, _+_, _≤_, _<_, _-_, _^_}
-use native.Mathlib.Omega.{arith}
+use mathlib.Core.Path.{_≡_, sym, _∙_}
+use Prim.Native.Nat.{_≤_, _-_}
 use lib.ListN.{drop}
 use Rattle.network.specs.Calls.{controlsFit}
 use borrow.Author.Tests.{not-true, not-false}
@@ -9,10 +8,6 @@ use Rattle.network.proofs.Calls.{fit-now, fit-end}
 use borrow.Author.Needs.{needs}
 use Rattle.network.proofs.is_used_only.Statement.{statement}
 use Rattle.network.proofs.is_used_only.Tie as tie
-use Rattle.network.proofs.is_used_only.Reads as reads
-use Rattle.network.proofs.is_used_only.Lts as lts
-use Rattle.bits.proofs.is_within.Reads as is-within-reads
-use Rattle.network.proofs.used_bits.Reads as used-bits-reads
 
 abbrev Inv-loop : tie.InvT-loop
 Inv-loop log stages at₀ at = (at ≤ 6) × (controlsFit log at (drop at stages) ≡ controlsFit log 0 stages)

@@ -1,6 +1,6 @@
 -- `network::prepare` meets its contract. Assumes nothing.
-use mathlib.Core.Path.{_≡_, refl, sym, _∙_, ap}
-use Prim.Native.Nat.{ℕ, _+_, _-_, _^_, _≤_, _<_}
+use mathlib.Core.Path.{_≡_, refl, _∙_}
+use Prim.Native.Nat.{_-_, _≤_}
 use native.Mathlib.Omega.{arith}
 use Rattle.network.specs.Stage.{falling}
 use Rattle.network.specs.Word.{swapsAt}
@@ -9,9 +9,6 @@ use Rattle.network.proofs.SixSteps.{length-six, swaps-here}
 use borrow.Author.Needs.{needs}
 use Rattle.network.proofs.prepare.Statement.{statement}
 use Rattle.network.proofs.prepare.Tie as tie
-use Rattle.network.proofs.prepare.Reads as reads
-use Rattle.network.proofs.prepare.Lts as lts
-use Rattle.network.proofs.swaps.Reads as swaps-reads
 
 abbrev Inv-loop : tie.InvT-loop
 Inv-loop columns words₀ index₀ words index = (index ≤ 6) × (words ≡ filled 0 index (swapsAt (falling 6) columns))

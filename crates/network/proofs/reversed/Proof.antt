@@ -1,15 +1,13 @@
 -- `network::reversed` meets its contract. Assumes nothing.
-use mathlib.Core.Path.{_≡_, refl, sym, _∙_, ap}
+use mathlib.Core.Path.{_≡_, _∙_}
 use mathlib.Core.List.{reverse}
-use Prim.Native.Nat.{ℕ, _+_, _-_, _≤_}
+use Prim.Native.Nat.{_-_, _≤_}
 use native.Mathlib.Omega.{arith}
 use lib.ListN.{take}
 use Rattle.network.proofs.Filling.{filled, fill-turn, fill-end, length-reversed, reversed-at}
 use borrow.Author.Needs.{needs}
 use Rattle.network.proofs.reversed.Statement.{statement}
 use Rattle.network.proofs.reversed.Tie as tie
-use Rattle.network.proofs.reversed.Reads as reads
-use Rattle.network.proofs.reversed.Lts as lts
 
 abbrev Inv-loop : tie.InvT-loop
 Inv-loop log stages out₀ at₀ out at = (at ≤ log) × (out ≡ filled 0 at (reverse (take log stages)))

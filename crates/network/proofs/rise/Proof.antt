@@ -1,6 +1,6 @@
 -- `network::rise` meets its contract. Assumes nothing.
-use mathlib.Core.Path.{_≡_, refl, sym, _∙_, ap}
-use Prim.Native.Nat.{ℕ, _+_, _-_, _^_, _≤_, _<_}
+use mathlib.Core.Path.{_≡_, refl, sym, _∙_}
+use Prim.Native.Nat.{_-_, _≤_}
 use native.Mathlib.Omega.{arith}
 use mathlib.Core.List.{reverse}
 use lib.ListN.{drop}
@@ -11,9 +11,6 @@ use Rattle.network.proofs.SixSteps.{rise-turn, exchanges-end}
 use borrow.Author.Needs.{needs}
 use Rattle.network.proofs.rise.Statement.{statement}
 use Rattle.network.proofs.rise.Tie as tie
-use Rattle.network.proofs.rise.Reads as reads
-use Rattle.network.proofs.rise.Lts as lts
-use Rattle.network.proofs.exchange.Reads as exchange-reads
 
 abbrev Inv-loop : tie.InvT-loop
 Inv-loop word words carried₀ index₀ carried index = (index ≤ 6) × (exchangesOf (drop (6 - index) (rising 6)) (drop (6 - index) (reverse words)) carried ≡ exchangesOf (rising 6) (reverse words) word)

@@ -8,8 +8,6 @@ use Rattle.network.proofs.Steps.{distance-lt, spread-turn}
 use borrow.Author.Needs.{needs}
 use Rattle.network.proofs.spread.Statement.{statement}
 use Rattle.network.proofs.spread.Tie as tie
-use Rattle.network.proofs.spread.Reads as reads
-use Rattle.network.proofs.spread.Lts as lts
 
 abbrev Inv-loop : tie.InvT-loop
 Inv-loop index column bits₀ at₀ bits at = (at ≤ index) × (bits ≡ spreadOf (2 ^ (5 - at)) column)

@@ -2,8 +2,6 @@
 use borrow.Author.Needs.{needs}
 use Rattle.network.proofs.stage_at.Statement.{statement}
 use Rattle.network.proofs.stage_at.Tie as tie
-use Rattle.network.proofs.stage_at.Reads as reads
-use Rattle.network.proofs.stage_at.Lts as lts
 
 sub-result : tie.Need-sub-result
 sub-result c = search needs

@@ -1,5 +1,5 @@
 -- `network::stage_bits` meets its contract. Assumes nothing.
-use mathlib.Core.Path.{_≡_, refl, sym, _∙_, ap}
+use mathlib.Core.Path.{_≡_, _∙_, ap}
 use Prim.Native.Nat.{ℕ, _+_, _-_, _*_, _<_, _≤_}
 use native.Mathlib.Omega.{arith}
 use Rattle.bits.specs.Bit.{ofBits}
@@ -9,10 +9,6 @@ use lib.Pow.{pow-pos}
 use borrow.Author.Needs.{needs}
 use Rattle.network.proofs.stage_bits.Statement.{statement}
 use Rattle.network.proofs.stage_bits.Tie as tie
-use Rattle.network.proofs.stage_bits.Reads as reads
-use Rattle.network.proofs.stage_bits.Lts as lts
-use Rattle.bits.proofs.count.Reads as count-reads
-use Rattle.network.proofs.turned_bits.Reads as turned-bits-reads
 
 abbrev Inv-loop : tie.InvT-loop
 Inv-loop distance blocks mask out₀ block₀ out block = (block ≤ blocks) × (out ≡ ofBits (distance * block) (controlAt distance mask))

@@ -4,9 +4,6 @@ use Rattle.network.proofs.Table.{pair-at}
 use borrow.Author.Needs.{needs}
 use Rattle.network.proofs.swaps.Statement.{statement}
 use Rattle.network.proofs.swaps.Tie as tie
-use Rattle.network.proofs.swaps.Reads as reads
-use Rattle.network.proofs.swaps.Lts as lts
-use Rattle.network.proofs.spread.Reads as spread-reads
 
 mul-result : tie.Need-mul-result
 mul-result c = search needs

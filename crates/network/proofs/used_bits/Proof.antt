@@ -3,8 +3,6 @@ use Rattle.network.proofs.Calls.{used-some, used-none}
 use borrow.Author.Needs.{needs}
 use Rattle.network.proofs.used_bits.Statement.{statement}
 use Rattle.network.proofs.used_bits.Tie as tie
-use Rattle.network.proofs.used_bits.Reads as reads
-use Rattle.network.proofs.used_bits.Lts as lts
 
 sub-result : tie.Need-sub-result
 sub-result c = search needs

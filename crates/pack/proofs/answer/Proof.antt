@@ -5,9 +5,6 @@ use Rattle.pack.proofs.Calls.{within, answer-refused, answer-done, bits
 use borrow.Author.Needs.{needs}
 use Rattle.pack.proofs.answer.Statement.{statement}
 use Rattle.pack.proofs.answer.Tie as tie
-use Rattle.pack.proofs.answer.Reads as reads
-use Rattle.pack.proofs.answer.Lts as lts
-use Rattle.pack.proofs.refusal.Reads as refusal-reads
 
 refusal-requires : tie.Need-refusal-requires
 refusal-requires c κs = search needs

@@ -4,9 +4,6 @@ use Rattle.pack.proofs.Routing.{rise-gathers}
 use borrow.Author.Needs.{needs}
 use Rattle.pack.proofs.gathered.Statement.{statement}
 use Rattle.pack.proofs.gathered.Tie as tie
-use Rattle.pack.proofs.gathered.Reads as reads
-use Rattle.pack.proofs.gathered.Lts as lts
-use Rattle.network.proofs.rise.Reads as rise-reads
 
 rise-requires : tie.Need-rise-requires
 rise-requires c κs = search needs

@@ -11,12 +11,6 @@ use Rattle.pack.proofs.Lists.{fill-none, fill-next, fill-all}
 use Rattle.pack.proofs.Turns.{unpack-starts, unpack-room, unpack-turn, unpack-field}
 use Rattle.pack.proofs.read_fields.Statement.{statement}
 use Rattle.pack.proofs.read_fields.Tie as tie
-use Rattle.pack.proofs.read_fields.Reads as reads
-use Rattle.pack.proofs.read_fields.Lts as lts
-use Rattle.bits.proofs.count.Reads as count-reads
-use Rattle.pack.proofs.Cursor.take.Reads as take-reads
-use Rattle.pack.proofs.routes.Reads as routes-reads
-use Rattle.pack.proofs.scattered.Reads as scattered-reads
 
 abbrev Inv-loop : tie.InvT-loop
 Inv-loop mask packed out₀ size swaps cursor₀ i₀ out cursor i = (i ≤ length out₀) × (length out ≡ length out₀) × Awaits packed (sizeOf mask * i) cursor

@@ -5,8 +5,6 @@ use borrow.Author.Needs.{needs}
 use Rattle.pack.proofs.Calls.{bits-le, by-order, by-end, by-own, by-other, by-short, by-none}
 use Rattle.pack.proofs.refusal.Statement.{statement}
 use Rattle.pack.proofs.refusal.Tie as tie
-use Rattle.pack.proofs.refusal.Reads as reads
-use Rattle.pack.proofs.refusal.Lts as lts
 
 returns : tie.Need-returns
 returns c =

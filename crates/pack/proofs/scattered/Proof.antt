@@ -6,9 +6,6 @@ use Rattle.pack.proofs.Routing.{fall-scatters}
 use borrow.Author.Needs.{needs}
 use Rattle.pack.proofs.scattered.Statement.{statement}
 use Rattle.pack.proofs.scattered.Tie as tie
-use Rattle.pack.proofs.scattered.Reads as reads
-use Rattle.pack.proofs.scattered.Lts as lts
-use Rattle.network.proofs.fall.Reads as fall-reads
 
 fall-requires : tie.Need-fall-requires
 fall-requires c κs = search needs

@@ -7,11 +7,6 @@ use Rattle.pack.proofs.Calls.{Within, refused, carried-out, limits, cut
 use borrow.Author.Needs.{needs}
 use Rattle.pack.proofs.unpack.Statement.{statement}
 use Rattle.pack.proofs.unpack.Tie as tie
-use Rattle.pack.proofs.unpack.Reads as reads
-use Rattle.pack.proofs.unpack.Lts as lts
-use Rattle.bits.proofs.count.Reads as count-reads
-use Rattle.pack.proofs.answer.Reads as answer-reads
-use Rattle.pack.proofs.read_fields.Reads as read-fields-reads
 
 count-requires : tie.Need-count-requires
 count-requires c κs = search needs

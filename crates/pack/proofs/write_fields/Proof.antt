@@ -10,12 +10,6 @@ use Rattle.pack.specs.Cursor.{Holds}
 use Rattle.pack.proofs.Turns.{streamOf, pack-starts, pack-turn, pack-room, pack-whole, last-room, pack-last}
 use Rattle.pack.proofs.write_fields.Statement.{statement}
 use Rattle.pack.proofs.write_fields.Tie as tie
-use Rattle.pack.proofs.write_fields.Reads as reads
-use Rattle.pack.proofs.write_fields.Lts as lts
-use Rattle.bits.proofs.count.Reads as count-reads
-use Rattle.pack.proofs.Cursor.put.Reads as put-reads
-use Rattle.pack.proofs.gathered.Reads as gathered-reads
-use Rattle.pack.proofs.routes.Reads as routes-reads
 
 abbrev Inv-loop : tie.InvT-loop
 Inv-loop mask words out₀ size swaps cursor₀ i₀ out cursor i = (i ≤ length words) × (length out ≡ length out₀)

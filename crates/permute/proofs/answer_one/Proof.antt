@@ -1,9 +1,6 @@
 -- `permute::answer_one` meets its contract. Assumes nothing.
-use borrow.Author.Needs.{needs}
 use Rattle.permute.proofs.answer_one.Statement.{statement}
 use Rattle.permute.proofs.answer_one.Tie as tie
-use Rattle.permute.proofs.answer_one.Reads as reads
-use Rattle.permute.proofs.answer_one.Lts as lts
 
 returns : tie.Need-returns
 returns c = rw (c .if1 .taken)

@@ -1,16 +1,14 @@
 -- `permute::names_once` meets its contract. Assumes nothing.
-use mathlib.Core.Path.{_≡_, refl, sym, _∙_, ap}
+use mathlib.Core.Path.{_≡_, sym}
 use mathlib.Core.Bool.{true}
-use Prim.Native.Nat.{ℕ, _+_, _-_, _≤_}
+use Prim.Native.Nat.{_+_, _-_, _≤_}
 use native.Mathlib.Omega.{arith}
-use lib.ListN.{length, drop, getD}
+use lib.ListN.{length, drop}
 use Rattle.permute.specs.Permutation.{namesOnce}
 use Rattle.permute.proofs.Names.{Seen, entry-large, entry-repeated, entry-new, nothing-left, seen-nothing}
 use borrow.Author.Needs.{needs}
 use Rattle.permute.proofs.names_once.Statement.{statement}
 use Rattle.permute.proofs.names_once.Tie as tie
-use Rattle.permute.proofs.names_once.Reads as reads
-use Rattle.permute.proofs.names_once.Lts as lts
 
 abbrev Inv-loop : tie.InvT-loop
 Inv-loop width entries seen₀ at₀ seen at = (at ≤ length entries) × (namesOnce width (drop at entries) ≡ true) × Seen seen (drop at entries)

@@ -6,10 +6,6 @@ use Rattle.permute.proofs.Calls.{route-refusal-by}
 use borrow.Author.Needs.{needs}
 use Rattle.permute.proofs.refusal.Statement.{statement}
 use Rattle.permute.proofs.refusal.Tie as tie
-use Rattle.permute.proofs.refusal.Reads as reads
-use Rattle.permute.proofs.refusal.Lts as lts
-use Rattle.bits.proofs.log_of.Reads as log-of-reads
-use Rattle.permute.proofs.names_once.Reads as names-once-reads
 
 log-of-requires : tie.Need-log-of-requires
 log-of-requires c κs = search needs

@@ -4,11 +4,6 @@ use Rattle.permute.proofs.Answers.{route-refused, route-done, answers-f
 use borrow.Author.Needs.{needs}
 use Rattle.permute.proofs.route.Statement.{statement}
 use Rattle.permute.proofs.route.Tie as tie
-use Rattle.permute.proofs.route.Reads as reads
-use Rattle.permute.proofs.route.Lts as lts
-use Rattle.bits.proofs.log_of.Reads as log-of-reads
-use Rattle.first.proofs.controls.Reads as controls-reads
-use Rattle.permute.proofs.refusal.Reads as refusal-reads
 
 refusal-requires : tie.Need-refusal-requires
 refusal-requires c κs = search needs

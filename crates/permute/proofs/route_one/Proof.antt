@@ -5,13 +5,6 @@ use Rattle.permute.proofs.Calls.{route-permutes, one-turned-back, one-a
 use borrow.Author.Needs.{needs}
 use Rattle.permute.proofs.route_one.Statement.{statement}
 use Rattle.permute.proofs.route_one.Tie as tie
-use Rattle.permute.proofs.route_one.Reads as reads
-use Rattle.permute.proofs.route_one.Lts as lts
-use Rattle.alone.proofs.controls.Reads as controls-reads
-use Rattle.bits.proofs.log_of.Reads as log-of-reads
-use Rattle.permute.proofs.answer_one.Reads as answer-one-reads
-use Rattle.permute.proofs.refusal.Reads as refusal-reads
-use Rattle.permute.proofs.refused_one.Reads as refused-one-reads
 
 refusal-requires : tie.Need-refusal-requires
 refusal-requires c κs = search needs

@@ -1,15 +1,11 @@
 -- `unit::are_loaded` meets its contract. Assumes nothing.
 use mathlib.Core.Path.{sym, ap}
-use mathlib.Core.List.{List, []}
-use Prim.Native.Nat.{ℕ}
+use mathlib.Core.List.{[]}
 use borrow.Author.Needs.{needs}
 use Rattle.unit.specs.Operation.{areRegisters, loadUses, usedOf}
 use Rattle.unit.proofs.Asked.{loaded-at, entry-other, and-true}
 use Rattle.unit.proofs.are_loaded.Statement.{statement}
 use Rattle.unit.proofs.are_loaded.Tie as tie
-use Rattle.unit.proofs.are_loaded.Reads as reads
-use Rattle.unit.proofs.are_loaded.Lts as lts
-use Rattle.unit.proofs.are_two.Reads as are-two-reads
 
 are-two-requires : tie.Need-are-two-requires
 are-two-requires c κs = search needs

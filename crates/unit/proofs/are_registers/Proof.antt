@@ -1,17 +1,11 @@
 -- `unit::are_registers` meets its contract. Assumes nothing.
 use mathlib.Core.Path.{sym, ap}
-use mathlib.Core.List.{List, []}
-use Prim.Native.Nat.{ℕ}
+use mathlib.Core.List.{[]}
 use borrow.Author.Needs.{needs}
 use Rattle.unit.specs.Operation.{areRegisters, uses, usedOf}
 use Rattle.unit.proofs.Asked.{registers-at, entry-other, and-true}
 use Rattle.unit.proofs.are_registers.Statement.{statement}
 use Rattle.unit.proofs.are_registers.Tie as tie
-use Rattle.unit.proofs.are_registers.Reads as reads
-use Rattle.unit.proofs.are_registers.Lts as lts
-use Rattle.unit.proofs.are_loaded.Reads as are-loaded-reads
-use Rattle.unit.proofs.are_three.Reads as are-three-reads
-use Rattle.unit.proofs.are_two.Reads as are-two-reads
 
 are-two-requires : tie.Need-are-two-requires
 are-two-requires c κs = search needs

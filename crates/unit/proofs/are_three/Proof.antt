@@ -4,9 +4,6 @@ use borrow.Author.Tests.{le-leb, lt-leb}
 use borrow.Author.Needs.{needs}
 use Rattle.unit.proofs.are_three.Statement.{statement}
 use Rattle.unit.proofs.are_three.Tie as tie
-use Rattle.unit.proofs.are_three.Reads as reads
-use Rattle.unit.proofs.are_three.Lts as lts
-use Rattle.unit.proofs.are_two.Reads as are-two-reads
 
 returns : tie.Need-returns
 returns c = simp (lt-leb _ _ (c .if1 .taken))

@@ -3,8 +3,6 @@ use borrow.Author.Tests.{le-leb, lt-leb}
 use Rattle.unit.proofs.Asked.{and-true}
 use Rattle.unit.proofs.are_two.Statement.{statement}
 use Rattle.unit.proofs.are_two.Tie as tie
-use Rattle.unit.proofs.are_two.Reads as reads
-use Rattle.unit.proofs.are_two.Lts as lts
 
 returns : tie.Need-returns
 returns c = simp (lt-leb _ _ (c .if1 .taken))

@@ -1,20 +1,13 @@
 -- `unit::carry_out` meets its contract. Assumes nothing.
 use mathlib.Core.Path.{_≡_, _∙_}
-use mathlib.Core.List.{List, [], _∷_}
-use Prim.Native.Nat.{ℕ, _+_, _-_, _*_, _%_, _<_, _≤_}
-use native.Mathlib.Omega.{arith}
+use Prim.Native.Nat.{_+_, _-_, _*_, _<_, _≤_}
 use borrow.Author.Needs.{needs}
-use lib.ListN.{length, getD, drop}
+use lib.ListN.{length, drop}
 use Rattle.unit.specs.Run.{operationsOf}
 use Rattle.unit.proofs.Lists.{operations-next, operations-end}
 use Rattle.unit.proofs.Runs.{Going, going-none, going-next, going-spent, going-done}
 use Rattle.unit.proofs.carry_out.Statement.{statement}
 use Rattle.unit.proofs.carry_out.Tie as tie
-use Rattle.unit.proofs.carry_out.Reads as reads
-use Rattle.unit.proofs.carry_out.Lts as lts
-use Rattle.unit.proofs.cycles_of.Reads as cycles-of-reads
-use Rattle.unit.proofs.ended.Reads as ended-reads
-use Rattle.unit.proofs.step.Reads as step-reads
 
 abbrev Inv-loop : tie.InvT-loop
 Inv-loop ops budget after₀ left₀ ran₀ at₀ after left ran at =

@@ -1,13 +1,10 @@
 -- `unit::cycles_of` meets its contract. Assumes nothing.
-use native.Mathlib.Omega.{arith}
 use mathlib.Core.Path.{refl, sym}
 use lib.ListN.{List·getD-eq-default}
 use Rattle.unit.specs.Operation.{figures, cyclesOf}
 use borrow.Author.Needs.{needs}
 use Rattle.unit.proofs.cycles_of.Statement.{statement}
 use Rattle.unit.proofs.cycles_of.Tie as tie
-use Rattle.unit.proofs.cycles_of.Reads as reads
-use Rattle.unit.proofs.cycles_of.Lts as lts
 
 returns : tie.Need-returns
 unfolding cyclesOf

@@ -4,9 +4,6 @@ use Rattle.unit.proofs.Width.{by-mask-64}
 use borrow.Author.Needs.{needs}
 use Rattle.unit.proofs.gathered.Statement.{statement}
 use Rattle.unit.proofs.gathered.Tie as tie
-use Rattle.unit.proofs.gathered.Reads as reads
-use Rattle.unit.proofs.gathered.Lts as lts
-use Rattle.gather.proofs.gather.Reads as gather-reads
 
 gather-requires : tie.Need-gather-requires
 gather-requires c κs = search needs

@@ -6,8 +6,6 @@ use Prim.Native.Nat.{_≤_}
 use borrow.Author.Needs.{needs}
 use Rattle.unit.proofs.general_at.Statement.{statement}
 use Rattle.unit.proofs.general_at.Tie as tie
-use Rattle.unit.proofs.general_at.Reads as reads
-use Rattle.unit.proofs.general_at.Lts as lts
 
 returns : tie.Need-returns
 returns c =

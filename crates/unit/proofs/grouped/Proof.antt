@@ -4,9 +4,6 @@ use Rattle.unit.proofs.Width.{by-mask-64}
 use borrow.Author.Needs.{needs}
 use Rattle.unit.proofs.grouped.Statement.{statement}
 use Rattle.unit.proofs.grouped.Tie as tie
-use Rattle.unit.proofs.grouped.Reads as reads
-use Rattle.unit.proofs.grouped.Lts as lts
-use Rattle.gather.proofs.group.Reads as group-reads
 
 group-requires : tie.Need-group-requires
 group-requires c κs = search needs

@@ -3,8 +3,6 @@ use borrow.Author.Tests.{le-leb, lt-leb, eq-eqb, ne-eqb}
 use Rattle.unit.specs.Operation.{isKind}
 use Rattle.unit.proofs.is_kind.Statement.{statement}
 use Rattle.unit.proofs.is_kind.Tie as tie
-use Rattle.unit.proofs.is_kind.Reads as reads
-use Rattle.unit.proofs.is_kind.Lts as lts
 
 returns : tie.Need-returns
 unfolding isKind

@@ -1,16 +1,9 @@
 -- `unit::load` meets its contract. Assumes nothing.
-use mathlib.Core.Path.{refl}
 use borrow.Author.Needs.{needs}
 use Rattle.unit.specs.Operation.{loads, loadOf}
 use Rattle.unit.proofs.Asked.{load-at, entry-other}
 use Rattle.unit.proofs.load.Statement.{statement}
 use Rattle.unit.proofs.load.Tie as tie
-use Rattle.unit.proofs.load.Reads as reads
-use Rattle.unit.proofs.load.Lts as lts
-use Rattle.unit.proofs.with_b.Reads as with-b-reads
-use Rattle.unit.proofs.with_ib.Reads as with-ib-reads
-use Rattle.unit.proofs.with_third.Reads as with-third-reads
-use Rattle.unit.proofs.with_two.Reads as with-two-reads
 
 with-two-requires : tie.Need-with-two-requires
 with-two-requires c κs = search needs

@@ -3,8 +3,6 @@ use borrow.Author.Tests.{eq-eqb, ne-eqb, lt-ltb, le-ltb}
 use Rattle.unit.specs.Run.{lowerOf}
 use Rattle.unit.proofs.lower.Statement.{statement}
 use Rattle.unit.proofs.lower.Tie as tie
-use Rattle.unit.proofs.lower.Reads as reads
-use Rattle.unit.proofs.lower.Lts as lts
 
 returns : tie.Need-returns
 unfolding lowerOf

@@ -3,8 +3,6 @@ use borrow.Author.Tests.{le-leb, lt-leb}
 use Rattle.unit.specs.Calls.{numberRefusal}
 use Rattle.unit.proofs.number_refusal.Statement.{statement}
 use Rattle.unit.proofs.number_refusal.Tie as tie
-use Rattle.unit.proofs.number_refusal.Reads as reads
-use Rattle.unit.proofs.number_refusal.Lts as lts
 
 returns : tie.Need-returns
 unfolding numberRefusal

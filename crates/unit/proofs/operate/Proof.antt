@@ -4,11 +4,6 @@ use borrow.Author.Tests.{eq-eqb, ne-eqb}
 use Rattle.unit.specs.Calls.{operateOf}
 use Rattle.unit.proofs.operate.Statement.{statement}
 use Rattle.unit.proofs.operate.Tie as tie
-use Rattle.unit.proofs.operate.Reads as reads
-use Rattle.unit.proofs.operate.Lts as lts
-use Rattle.unit.proofs.cycles_of.Reads as cycles-of-reads
-use Rattle.unit.proofs.operation_refusal.Reads as operation-refusal-reads
-use Rattle.unit.proofs.step.Reads as step-reads
 
 operation-refusal-requires : tie.Need-operation-refusal-requires
 operation-refusal-requires c κs = search needs

@@ -5,10 +5,6 @@ use borrow.Author.Tests.{not-true, not-false}
 use Rattle.unit.proofs.Asked.{operation-refusal-by}
 use Rattle.unit.proofs.operation_refusal.Statement.{statement}
 use Rattle.unit.proofs.operation_refusal.Tie as tie
-use Rattle.unit.proofs.operation_refusal.Reads as reads
-use Rattle.unit.proofs.operation_refusal.Lts as lts
-use Rattle.unit.proofs.are_registers.Reads as are-registers-reads
-use Rattle.unit.proofs.is_kind.Reads as is-kind-reads
 
 is-kind-requires : tie.Need-is-kind-requires
 is-kind-requires c κs = search needs

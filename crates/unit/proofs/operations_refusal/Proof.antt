@@ -1,18 +1,12 @@
 -- `unit::operations_refusal` meets its contract. Assumes nothing.
 use mathlib.Core.Path.{_≡_}
-use mathlib.Core.List.{List, [], _∷_}
-use Prim.Native.Nat.{ℕ, _+_, _-_, _*_, _%_, _<_, _≤_}
-use native.Mathlib.Omega.{arith}
+use Prim.Native.Nat.{_+_, _-_, _%_, _<_, _≤_}
 use borrow.Author.Needs.{needs}
-use lib.ListN.{length, getD, drop}
+use lib.ListN.{length, drop}
 use Rattle.unit.specs.Run.{operationsOf}
 use Rattle.unit.proofs.Lists.{operations-next, operations-end, Sofar, sofar-none, sofar-next, sofar-all}
 use Rattle.unit.proofs.operations_refusal.Statement.{statement}
 use Rattle.unit.proofs.operations_refusal.Tie as tie
-use Rattle.unit.proofs.operations_refusal.Reads as reads
-use Rattle.unit.proofs.operations_refusal.Lts as lts
-use Rattle.unit.proofs.lower.Reads as lower-reads
-use Rattle.unit.proofs.operation_refusal.Reads as operation-refusal-reads
 
 abbrev Inv-loop : tie.InvT-loop
 Inv-loop ops refused₀ at₀ refused at =

@@ -3,9 +3,6 @@ use Rattle.unit.proofs.Held.{packed-are}
 use borrow.Author.Needs.{needs}
 use Rattle.unit.proofs.packed.Statement.{statement}
 use Rattle.unit.proofs.packed.Tie as tie
-use Rattle.unit.proofs.packed.Reads as reads
-use Rattle.unit.proofs.packed.Lts as lts
-use Rattle.unit.proofs.joined.Reads as joined-reads
 
 array-read-joined : tie.Need-array-read-joined
 array-read-joined c = search needs

@@ -4,10 +4,6 @@ use borrow.Author.Tests.{eq-eqb, ne-eqb}
 use Rattle.unit.specs.Calls.{readOf}
 use Rattle.unit.proofs.read.Statement.{statement}
 use Rattle.unit.proofs.read.Tie as tie
-use Rattle.unit.proofs.read.Reads as reads
-use Rattle.unit.proofs.read.Lts as lts
-use Rattle.unit.proofs.general_at.Reads as general-at-reads
-use Rattle.unit.proofs.number_refusal.Reads as number-refusal-reads
 
 number-refusal-requires : tie.Need-number-refusal-requires
 number-refusal-requires c κs = search needs

@@ -6,10 +6,6 @@ use Rattle.unit.specs.Run.{runOf}
 use Rattle.unit.proofs.Lists.{run-within}
 use Rattle.unit.proofs.run.Statement.{statement}
 use Rattle.unit.proofs.run.Tie as tie
-use Rattle.unit.proofs.run.Reads as reads
-use Rattle.unit.proofs.run.Lts as lts
-use Rattle.unit.proofs.carry_out.Reads as carry-out-reads
-use Rattle.unit.proofs.run_refusal.Reads as run-refusal-reads
 
 run-refusal-requires : tie.Need-run-refusal-requires
 run-refusal-requires c κs = search needs

@@ -5,9 +5,6 @@ use borrow.Author.Tests.{eq-eqb, ne-eqb, le-leb, lt-leb}
 use Rattle.unit.proofs.Lists.{run-refusal-by}
 use Rattle.unit.proofs.run_refusal.Statement.{statement}
 use Rattle.unit.proofs.run_refusal.Tie as tie
-use Rattle.unit.proofs.run_refusal.Reads as reads
-use Rattle.unit.proofs.run_refusal.Lts as lts
-use Rattle.unit.proofs.operations_refusal.Reads as operations-refusal-reads
 
 returns : tie.Need-returns
 returns c = let a = c .before .before .args in sym (run-refusal-by (a .ops .now) (ne-eqb _ _ (c .if1 .taken)) refl refl)

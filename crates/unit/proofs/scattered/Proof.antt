@@ -4,9 +4,6 @@ use Rattle.unit.proofs.Width.{by-mask-64}
 use borrow.Author.Needs.{needs}
 use Rattle.unit.proofs.scattered.Statement.{statement}
 use Rattle.unit.proofs.scattered.Tie as tie
-use Rattle.unit.proofs.scattered.Reads as reads
-use Rattle.unit.proofs.scattered.Lts as lts
-use Rattle.gather.proofs.scatter.Reads as scatter-reads
 
 scatter-requires : tie.Need-scatter-requires
 scatter-requires c κs = search needs

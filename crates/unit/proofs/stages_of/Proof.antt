@@ -3,10 +3,6 @@ use Rattle.unit.proofs.Held.{stages-are}
 use borrow.Author.Needs.{needs}
 use Rattle.unit.proofs.stages_of.Statement.{statement}
 use Rattle.unit.proofs.stages_of.Tie as tie
-use Rattle.unit.proofs.stages_of.Reads as reads
-use Rattle.unit.proofs.stages_of.Lts as lts
-use Rattle.unit.proofs.high.Reads as high-reads
-use Rattle.unit.proofs.low.Reads as low-reads
 
 array-read-low : tie.Need-array-read-low
 array-read-low c = search needs

@@ -1,24 +1,9 @@
 -- `unit::step` meets its contract. Assumes nothing.
-use mathlib.Core.Path.{refl}
 use borrow.Author.Needs.{needs}
 use Rattle.unit.specs.Operation.{steps, stepOf}
 use Rattle.unit.proofs.Asked.{step-at, entry-other}
 use Rattle.unit.proofs.step.Statement.{statement}
 use Rattle.unit.proofs.step.Tie as tie
-use Rattle.unit.proofs.step.Reads as reads
-use Rattle.unit.proofs.step.Lts as lts
-use Rattle.unit.proofs.butterfly_at.Reads as butterfly-at-reads
-use Rattle.unit.proofs.decoded.Reads as decoded-reads
-use Rattle.unit.proofs.decoded_inverse.Reads as decoded-inverse-reads
-use Rattle.unit.proofs.gathered.Reads as gathered-reads
-use Rattle.unit.proofs.general_at.Reads as general-at-reads
-use Rattle.unit.proofs.grouped.Reads as grouped-reads
-use Rattle.unit.proofs.inverse_at.Reads as inverse-at-reads
-use Rattle.unit.proofs.load.Reads as load-reads
-use Rattle.unit.proofs.scattered.Reads as scattered-reads
-use Rattle.unit.proofs.with_b.Reads as with-b-reads
-use Rattle.unit.proofs.with_general.Reads as with-general-reads
-use Rattle.unit.proofs.with_ib.Reads as with-ib-reads
 
 general-at-requires : tie.Need-general-at-requires
 general-at-requires c κs = search needs

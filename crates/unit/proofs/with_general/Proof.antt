@@ -1,5 +1,5 @@
 -- `unit::with_general` meets its contract. Assumes nothing.
-use mathlib.Core.Path.{_≡_, sym}
+use mathlib.Core.Path.{_≡_}
 use native.Mathlib.Omega.{arith}
 use lib.ListN.{length}
 use lib.Seq.{set-out}
@@ -7,8 +7,6 @@ use Prim.Native.Nat.{_≤_}
 use borrow.Author.Needs.{needs}
 use Rattle.unit.proofs.with_general.Statement.{statement}
 use Rattle.unit.proofs.with_general.Tie as tie
-use Rattle.unit.proofs.with_general.Reads as reads
-use Rattle.unit.proofs.with_general.Lts as lts
 
 returns : tie.Need-returns
 returns c =

@@ -4,10 +4,6 @@ use borrow.Author.Tests.{eq-eqb, ne-eqb}
 use Rattle.unit.specs.Calls.{writeOf}
 use Rattle.unit.proofs.write.Statement.{statement}
 use Rattle.unit.proofs.write.Tie as tie
-use Rattle.unit.proofs.write.Reads as reads
-use Rattle.unit.proofs.write.Lts as lts
-use Rattle.unit.proofs.number_refusal.Reads as number-refusal-reads
-use Rattle.unit.proofs.with_general.Reads as with-general-reads
 
 number-refusal-requires : tie.Need-number-refusal-requires
 number-refusal-requires c κs = search needs

@@ -6,8 +6,6 @@ use Rattle.pack.proofs.Stream.{put-stays, put-completes}
 use borrow.Author.Needs.{needs}
 use Rattle.pack.proofs.Cursor.put.Statement.{statement}
 use Rattle.pack.proofs.Cursor.put.Tie as tie
-use Rattle.pack.proofs.Cursor.put.Reads as reads
-use Rattle.pack.proofs.Cursor.put.Lts as lts
 
 shl-pending : tie.Need-shl-pending
 shl-pending c = search needs

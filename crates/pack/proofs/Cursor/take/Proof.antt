@@ -7,8 +7,6 @@ use Rattle.pack.proofs.Reading.{take-held, take-low, take-next, take-jo
 use borrow.Author.Needs.{needs}
 use Rattle.pack.proofs.Cursor.take.Statement.{statement}
 use Rattle.pack.proofs.Cursor.take.Tie as tie
-use Rattle.pack.proofs.Cursor.take.Reads as reads
-use Rattle.pack.proofs.Cursor.take.Lts as lts
 
 shr-t10 : tie.Need-shr-t10
 shr-t10 c = search needs
