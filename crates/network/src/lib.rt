@@ -88,7 +88,7 @@ fn exchange(index: usize, swaps: u64, word: u64) -> u64
 
 // internal: a logarithm of at most 6, and an index of the table. The stage there, of the inverse (rising) or of the butterfly; one that is
 // not in use passes every bit.
-fn column_at(rising: bool, log: usize, stages: [u32; 6], index: usize) -> u32
+fn stage_in_table(rising: bool, log: usize, stages: [u32; 6], index: usize) -> u32
     requires { ⌜ (log ≤ 6) × (index < 6) ⌝ }
     ensures { λ r. ⌜ r ≡ getD (byIndex rising log stages) index 0 ⌝ }
 {
@@ -106,7 +106,7 @@ fn by_index(rising: bool, log: usize, stages: [u32; 6]) -> [u32; 6]
     let mut columns = [0u32; 6];
     let mut index: usize = 0;
     while index < 6 {
-        columns[index] = column_at(rising, log, stages, index);
+        columns[index] = stage_in_table(rising, log, stages, index);
         index += 1;
     }
     columns

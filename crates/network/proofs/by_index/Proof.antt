@@ -18,8 +18,8 @@ abbrev μ-loop : tie.MeasureT-loop
 loop-holds : tie.Need-loop-holds Inv-loop μ-loop
 loop-holds c = (search needs, refl)
 
-column-at-requires : tie.Need-column-at-requires Inv-loop μ-loop
-column-at-requires c κs = search needs
+stage-in-table-requires : tie.Need-stage-in-table-requires Inv-loop μ-loop
+stage-in-table-requires c κs = search needs
 
 mul-columns : tie.Need-mul-columns Inv-loop μ-loop
 mul-columns c = search needs
@@ -38,7 +38,7 @@ loop-again c =
     let l = c .before .before .loop in
     let a = c .before .before .before .args in
     let n = length-index (a .rising) (a .log) (search needs) (a .stages) (search needs) in
-    (search needs, fill-turn 0 (byIndex (a .rising) (a .log) (a .stages)) (l .index) (search needs) (omega (arith, n)) (l .inv .1) (c .column-at .ensures))
+    (search needs, fill-turn 0 (byIndex (a .rising) (a .log) (a .stages)) (l .index) (search needs) (omega (arith, n)) (l .inv .1) (c .stage-in-table .ensures))
 
 returns : tie.Need-returns Inv-loop μ-loop
 returns c =
@@ -54,7 +54,7 @@ by-index-spec =
     Inv-loop
     μ-loop
     loop-holds
-    column-at-requires
+    stage-in-table-requires
     mul-columns
     array-write-columns
     add-index

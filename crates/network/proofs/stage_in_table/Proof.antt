@@ -1,8 +1,8 @@
--- `network::column_at` meets its contract. Assumes nothing.
+-- `network::stage_in_table` meets its contract. Assumes nothing.
 use Rattle.network.proofs.SixSteps.{index-none, index-here}
 use borrow.Author.Needs.{needs}
-use Rattle.network.proofs.column_at.Statement.{statement}
-use Rattle.network.proofs.column_at.Tie as tie
+use Rattle.network.proofs.stage_in_table.Statement.{statement}
+use Rattle.network.proofs.stage_in_table.Tie as tie
 
 sub-if1 : tie.Need-sub-if1
 sub-if1 c = search needs
@@ -24,5 +24,5 @@ returns-2 c =
     let a = c .before .before .args in
     index-here (a .rising) (a .log) (search needs) (a .t3) (search needs) (a .index) (search needs) (search needs) (c .stage-at .ensures .1)
 
-pub column-at-spec : {M : Type 1} → statement M
-column-at-spec = tie.close (tie.spec sub-if1 returns stage-at-requires mul-result array-read-result returns-2)
+pub stage-in-table-spec : {M : Type 1} → statement M
+stage-in-table-spec = tie.close (tie.spec sub-if1 returns stage-at-requires mul-result array-read-result returns-2)
