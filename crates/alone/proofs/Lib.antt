@@ -1,5 +1,5 @@
 pub mod Route
 pub mod Asking
-pub mod Words
-pub mod Steps
-pub mod Calls
+pub mod AskedWords
+pub mod OneRoute
+pub mod AgreeFits

@@ -12,7 +12,7 @@ use lib.Pow.{pow-pos, mod-mod-pow}
 use borrow.Author.Tests.{eqb-true, eqb-false, eq-eqb, ne-eqb}
 use Rattle.bits.specs.Bit.{bit}
 use Rattle.bits.proofs.Word.{bit-mod}
-use Rattle.routing.specs.Stages.{switchOf, partner, through, butterfly}
+use Rattle.routing.specs.Stages.{switchAt, partnerAt, through, butterfly}
 use Rattle.alone.specs.Asked.{crossed, straight}
 
 half-above : (e x : ℕ) → x / 2 ^ suc e ≡ x / 2 ^ e / 2
@@ -31,8 +31,8 @@ other u = u / 2 * 2 + (1 - u % 2)
 
 -- The partner has bit e changed, and a stage changes no other.
 module _ (e x : ℕ) where
-  partner-high : partner e x / 2 ^ e ≡ other (x / 2 ^ e)
-  unfolding partner
+  partner-high : partnerAt e x / 2 ^ e ≡ other (x / 2 ^ e)
+  unfolding partnerAt
   partner-high = go (eqb (x / 2 ^ e % 2) 0) refl
     where
       go : (b : Bool) → eqb (x / 2 ^ e % 2) 0 ≡ b → cond b (x + 2 ^ e) (x - 2 ^ e) / 2 ^ e ≡ other (x / 2 ^ e)
@@ -41,8 +41,8 @@ module _ (e x : ℕ) where
           let odd = eqb-false (x / 2 ^ e % 2) 0 t in
           omega (arith, div-eq-sub-div (pow-pos e) (odd-above e x odd), odd)
 
-  partner-low : partner e x % 2 ^ e ≡ x % 2 ^ e
-  unfolding partner
+  partner-low : partnerAt e x % 2 ^ e ≡ x % 2 ^ e
+  unfolding partnerAt
   partner-low = go (eqb (x / 2 ^ e % 2) 0) refl
     where
       go : (b : Bool) → eqb (x / 2 ^ e % 2) 0 ≡ b → cond b (x + 2 ^ e) (x - 2 ^ e) % 2 ^ e ≡ x % 2 ^ e
@@ -50,24 +50,24 @@ module _ (e x : ℕ) where
       go false t = sym (mod-eq-sub-mod (odd-above e x (eqb-false (x / 2 ^ e % 2) 0 t)))
 
 module _ (e : ℕ) (c : ℕ → Bool) (x : ℕ) where
-  through-high : through e c x / 2 ^ e ≡ cond (c (switchOf e x)) (other (x / 2 ^ e)) (x / 2 ^ e)
+  through-high : through e c x / 2 ^ e ≡ cond (c (switchAt e x)) (other (x / 2 ^ e)) (x / 2 ^ e)
   unfolding through
-  through-high = go (c (switchOf e x))
+  through-high = go (c (switchAt e x))
     where
-      go : (b : Bool) → cond b (partner e x) x / 2 ^ e ≡ cond b (other (x / 2 ^ e)) (x / 2 ^ e)
+      go : (b : Bool) → cond b (partnerAt e x) x / 2 ^ e ≡ cond b (other (x / 2 ^ e)) (x / 2 ^ e)
       go true = partner-high e x
       go false = refl
 
   through-low : through e c x % 2 ^ e ≡ x % 2 ^ e
   unfolding through
-  through-low = go (c (switchOf e x))
+  through-low = go (c (switchAt e x))
     where
-      go : (b : Bool) → cond b (partner e x) x % 2 ^ e ≡ x % 2 ^ e
+      go : (b : Bool) → cond b (partnerAt e x) x % 2 ^ e ≡ x % 2 ^ e
       go true = partner-low e x
       go false = refl
 
   through-above : through e c x / 2 ^ suc e ≡ x / 2 ^ suc e
-  through-above = half-above e (through e c x) ∙ go (c (switchOf e x)) through-high ∙ sym (half-above e x)
+  through-above = half-above e (through e c x) ∙ go (c (switchAt e x)) through-high ∙ sym (half-above e x)
     where
       go : (b : Bool) → through e c x / 2 ^ e ≡ cond b (other (x / 2 ^ e)) (x / 2 ^ e) → through e c x / 2 ^ e / 2 ≡ x / 2 ^ e / 2
       go true h = omega arith
@@ -107,8 +107,8 @@ butterfly-low (suc n) e c a l = go (decLt n e) (butterfly-low n e c a)
 at-switch :
     (c : ℕ → ℕ → Bool) (a b e : ℕ)
     → butterfly e c a % 2 ^ e ≡ b % 2 ^ e
-    → switchOf e (butterfly e c a) ≡ crossed e a b
-unfolding switchOf crossed
+    → switchAt e (butterfly e c a) ≡ crossed e a b
+unfolding switchAt crossed
 at-switch c a b e low =
     let q : butterfly e c a / 2 ^ suc e ≡ a / 2 ^ suc e =
     half-above e (butterfly e c a) ∙ ap (λ (u : ℕ). u / 2) (butterfly-high e c a) ∙ sym (half-above e a)
@@ -131,7 +131,7 @@ module _ (n : ℕ) (c : ℕ → ℕ → Bool) (a b e : ℕ) (brings : butterfly 
   pub route-straight : straight e a b ≡ not (c e (crossed e a b))
   unfolding straight butterfly
   route-straight =
-      go (c e (switchOf e (butterfly e c a))) (through-high e (c e) (butterfly e c a))
+      go (c e (switchAt e (butterfly e c a))) (through-high e (c e) (butterfly e c a))
       ∙ ap (λ (s : ℕ). not (c e s)) (at-switch c a b e (route-low e (omega arith)))
     where
       go :
@@ -151,7 +151,7 @@ module _ (c : ℕ → ℕ → Bool) (a b : ℕ) where
       → butterfly (suc e) c a / 2 ^ e % 2 ≡ b / 2 ^ e % 2
   unfolding straight butterfly
   straight-bit e low t =
-      go (c e (switchOf e x)) (through-high e (c e) x) (t ∙ ap (λ (s : ℕ). not (c e s)) (sym (at-switch c a b e low)))
+      go (c e (switchAt e x)) (through-high e (c e) x) (t ∙ ap (λ (s : ℕ). not (c e s)) (sym (at-switch c a b e low)))
     where
       x : ℕ
       x = butterfly e c a

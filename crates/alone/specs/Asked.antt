@@ -62,5 +62,5 @@ unfoldable pub agree : Bool → ℕ → List ℕ → List ℕ → Bool
 agree rising n places sources = everyBelow n (λ i. eqb (both rising n places sources i) 0)
 
 -- controls as n stages
-unfoldable pub stagesOf : Bool → ℕ → (ℕ → ℕ → Bool) → List ℕ
-stagesOf rising n c = cond rising (inverseWords (2 ^ n / 2) 0 n c) (butterflyWords (2 ^ n / 2) n c)
+unfoldable pub stageWords : Bool → ℕ → (ℕ → ℕ → Bool) → List ℕ
+stageWords rising n c = cond rising (inverseWords (2 ^ n / 2) 0 n c) (butterflyWords (2 ^ n / 2) n c)

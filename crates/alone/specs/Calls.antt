@@ -8,8 +8,8 @@ use Rattle.network.specs.Calls.{six}
 use Rattle.routing.specs.Lists.{butterflyFits, butterflyAlone, inverseFits, inverseAlone}
 use Rattle.alone.specs.declared.Found.{Found}
 
-abbrev pub fits : Bool → ℕ → List ℕ → Bool
-fits rising n entries = cond rising (inverseFits n entries) (butterflyFits n entries)
+abbrev pub fitsAlone : Bool → ℕ → List ℕ → Bool
+fitsAlone rising n entries = cond rising (inverseFits n entries) (butterflyFits n entries)
 
 abbrev pub alone : Bool → ℕ → List ℕ → List ℕ
 alone rising n entries = cond rising (inverseAlone n entries) (butterflyAlone n entries)

@@ -4,8 +4,8 @@ ghost use mathlib.Core.Bool.{true, false};
 ghost use Prim.Native.Nat.{_^_, _≤_, _<_};
 ghost use lib.Bits.{bitOr};
 ghost use Rattle.routing.specs.Lists.{ListPermutes};
-ghost use Rattle.alone.specs.Asked.{crossed, asked, unasked, askedWord, Within, Every, stageAt, agree, stagesOf};
-ghost use Rattle.alone.specs.Calls.{Answers, fits, alone};
+ghost use Rattle.alone.specs.Asked.{crossed, asked, unasked, askedWord, Within, Every, stageAt, agree, stageWords};
+ghost use Rattle.alone.specs.Calls.{Answers, fitsAlone, alone};
 
 // Whether the network realises the permutation, and its six stages in the direction of travel; six zeros if it does not.
 pub struct Found {
@@ -93,7 +93,7 @@ fn asked_of(log: usize, routes: usize, places: &[u8], sources: &[u8], exponent: 
 fn agreed(rising: bool, log: usize, routes: usize, places: &[u8], sources: &[u8]) -> Found
     requires { ⌜ (log ≤ 6) × (routes ≡ 2 ^ log) × Within (2 ^ log) (now places) × Within (2 ^ log) (now sources) ⌝ }
     ensures { λ r. ⌜ Answers (agree rising log (now (places .entry)) (now (sources .entry)))
-        (stagesOf rising log (unasked true (now (places .entry)) (now (sources .entry)) (2 ^ log))) r ⌝ }
+        (stageWords rising log (unasked true (now (places .entry)) (now (sources .entry)) (2 ^ log))) r ⌝ }
 {
     let mut stages = [0u32; 6];
     let mut at: usize = 0;
@@ -124,7 +124,7 @@ fn agreed(rising: bool, log: usize, routes: usize, places: &[u8], sources: &[u8]
 // undoes the butterfly of the same controls: there bit p comes to the place that entry p names.
 pub fn controls(rising: bool, log: usize, entries: &[u8]) -> Found
     requires { ⌜ (log ≤ 6) × ListPermutes (2 ^ log) (now entries) ⌝ }
-    ensures { λ r. ⌜ Answers (fits rising log (now (entries .entry))) (alone rising log (now (entries .entry))) r ⌝ }
+    ensures { λ r. ⌜ Answers (fitsAlone rising log (now (entries .entry))) (alone rising log (now (entries .entry))) r ⌝ }
 {
     let places = every_place();
     if rising {

@@ -7,25 +7,25 @@ ghost use Rattle.bits.specs.Refusal.{logOf, fits};
 // The refusal numbers, paper 01, 'Calls turned back'. They are part of the interface; more may follow, none changes.
 pub const CARRIED_OUT: u8 = 0; // no refusal
 
-pub const WIDTH: u8 = 1; // width not 8, 16, 32, 64
+pub const WIDTH: u8 = 1; // the width is not 8, 16, 32 or 64
 
-pub const ABOVE: u8 = 2; // word or mask has a one at line w or above
+pub const ABOVE: u8 = 2; // word or mask has a one at bit w or above
 
-pub const UNUSED: u8 = 3; // a one in an unused setting bit or column
+pub const UNUSED: u8 = 3; // a one in an unused control bit or stage
 
-pub const LENGTH: u8 = 4; // order not w long; run list not a multiple of 4 bytes, or above 4,096 bytes
+pub const LENGTH: u8 = 4; // the permutation is not w long; a run's list is not a multiple of 4 bytes, or above 4,096
 
-pub const ENTRY: u8 = 5; // order entry w or above, or repeated
+pub const ENTRY: u8 = 5; // an entry is w or above, or repeated
 
-pub const NOT_REALISED: u8 = 6; // order not realised by the one network named
+pub const NOT_REALISED: u8 = 6; // the permutation is not realised by the one network named
 
 pub const KIND: u8 = 7; // kind not 1 to 10, or in kind 5 r1 not 1 to 4
 
 pub const REGISTER: u8 = 8; // a register number in use above 15
 
-pub const RANGE: u8 = 9; // a above b, b above the length of the strip that a and b cut, or either strip above 2,048 words
+pub const RANGE: u8 = 9; // a is above b, b is above the length of the words that a and b cut, or either list of words is above 2,048
 
-pub const SHORT: u8 = 10; // the other strip shorter than its bits need
+pub const SHORT: u8 = 10; // the other list of words is shorter than its bits need
 
 // The base-two logarithm of an accepted width, 0 for any other number.
 pub fn log_of(width: u32) -> u32

@@ -6,14 +6,14 @@ use Prim.Native.Nat.{ℕ}
 use lib.Dec.{T, eqb, eqb→eq}
 use Rattle.bits.specs.Bit.{bit, ofBits, rank, places, pick, put}
 use Rattle.network.specs.Stage.{switchOf, partner, source, stage, travel, falling, rising, butterflyOf, inverseOf}
-use Rattle.network.specs.Decoder.{turn, turned, controlAt, column, decodeOf, decodeInverseOf}
-use Rattle.network.specs.Calls.{carryRefusal, carryAnswer, decodeRefusal, decodeAnswer}
+use Rattle.network.specs.Decoder.{turn, turned, controlAt, decodedStage, decodeOf, decodeInverseOf}
+use Rattle.network.specs.Calls.{networkRefusal, networkAnswer, decodeRefusal, decodeAnswer}
 use Rattle.gather.specs.Gather.{gatherOf, scatterOf, groupOf, refusalOf, answerOf}
 use Rattle.routing.specs.Place.{weight, num, place, at, tab}
 use Rattle.routing.specs.Loop.{flip, side, least, firstStage, lastStage, between}
 use Rattle.routing.specs.Loop as loop
 use Rattle.routing.specs.Net.{half, part, join, firstNet}
-use Rattle.routing.specs.Stages.{control, flat}
+use Rattle.routing.specs.Stages.{treeControl, flat}
 use Rattle.routing.specs.Stages as placed
 use Rattle.routing.specs.FirstControls.{onPlaces, firstControls}
 use Rattle.routing.specs.Alone.{forced, butterflyControls, inverseControls, everyBelow, butterflyTest, inverseTest}
@@ -22,7 +22,7 @@ use Rattle.permute.specs.Permutation.{absent, namesOnce}
 use Rattle.permute.specs.Calls.{routeRefusal, routeAnswer, oneRefusal, oneAnswer}
 use Rattle.unit.specs.Operation.{cyclesOf, isKind, usedOf, stepOf, loadOf}
 use Rattle.unit.specs.Run.{operationsOf, stepsOf, sumOf, ranOf, anyKind, anyRegister, runRefusal, runOf}
-use Rattle.examples.specs.Rows.{Row, outcomeOf, rows, Hold}
+use Rattle.examples.specs.Rows.{Row, rowOutcome, rows, Hold}
 
 same : List ℕ → List ℕ → Bool
 same [] [] = true
@@ -32,7 +32,7 @@ same (x ∷ xs) (y ∷ ys) = eqb x y && same xs ys
 
 allHold : List Row → Bool
 allHold [] = true
-allHold (r ∷ rs) = same (outcomeOf (r .call)) (r .outcome) && allHold rs
+allHold (r ∷ rs) = same (rowOutcome (r .call)) (r .outcome) && allHold rs
 
 both : (a b : Bool) → T (a && b) → T a × T b
 both true b t = (tt, t)
@@ -49,18 +49,18 @@ holds : (rs : List Row) → T (allHold rs) → Hold rs
 unfolding allHold
 holds [] t = tt
 holds (r ∷ rs) t =
-    let b = both (same (outcomeOf (r .call)) (r .outcome)) (allHold rs) t in
-    (same-eq (outcomeOf (r .call)) (r .outcome) (b .0), holds rs (b .1))
+    let b = both (same (rowOutcome (r .call)) (r .outcome)) (allHold rs) t in
+    (same-eq (rowOutcome (r .call)) (r .outcome) (b .0), holds rs (b .1))
 
 test : T (allHold rows)
-unfolding allHold same outcomeOf answerOf refusalOf gatherOf scatterOf groupOf pick put places ofBits bit rank
-    carryAnswer carryRefusal butterflyOf travel stage source partner switchOf falling
-    decodeAnswer decodeRefusal decodeOf decodeInverseOf column controlAt turned turn
+unfolding allHold same rowOutcome answerOf refusalOf gatherOf scatterOf groupOf pick put places ofBits bit rank
+    networkAnswer networkRefusal butterflyOf travel stage source partner switchOf falling
+    decodeAnswer decodeRefusal decodeOf decodeInverseOf decodedStage controlAt turned turn
     routeAnswer routeRefusal oneAnswer oneRefusal namesOnce absent firstWords butterflyFits inverseFits butterflyAlone inverseAlone
-    controlsOf find wordOf wordsOf controlIn butterflyWords inverseWords firstControls onPlaces firstNet half part join control flat
-    weight num place at tab flip side loop.stage loop.turn least firstStage lastStage between
+    controlsOf find wordOf wordsOf controlIn butterflyWords inverseWords firstControls onPlaces firstNet half part join treeControl flat
+    weight num place at tab flip side loop.sent loop.loopTurn least firstStage lastStage between
     forced butterflyControls inverseControls everyBelow butterflyTest inverseTest
-    placed.switchOf placed.partner placed.through placed.butterfly placed.inverse
+    placed.switchAt placed.partnerAt placed.through placed.butterfly placed.inverse
     runOf runRefusal operationsOf stepsOf sumOf ranOf anyKind anyRegister cyclesOf isKind usedOf stepOf loadOf inverseOf rising
 test = tt
 

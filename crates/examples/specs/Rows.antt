@@ -6,7 +6,7 @@ use Rattle.gather.specs.declared.Gathered.{Gathered}
 use Rattle.network.specs.declared.Carried.{Carried}
 use Rattle.network.specs.declared.Decoded.{Decoded}
 use Rattle.network.specs.Stage.{butterflyOf}
-use Rattle.network.specs.Calls.{carryAnswer, decodeAnswer}
+use Rattle.network.specs.Calls.{networkAnswer, decodeAnswer}
 use Rattle.routing.specs.Lists.{butterflyFits, butterflyAlone, inverseFits, inverseAlone}
 use Rattle.permute.specs.declared.Routed.{Routed}
 use Rattle.permute.specs.declared.RoutedOne.{RoutedOne}
@@ -49,16 +49,16 @@ routedOne r = r .refusal ∷ r .controls .stages
 abbrev pub ended : Ran → List ℕ
 ended r = r .run .refusal ∷ r .run .«end» ∷ r .run .ran ∷ r .run .cycles ∷ register (r .bank) 1 ∷ []
 
-unfoldable pub outcomeOf : Call → List ℕ
-outcomeOf (gather w m x) = gathered (answerOf gatherOf w m x)
-outcomeOf (scatter w m x) = gathered (answerOf scatterOf w m x)
-outcomeOf (group w m x) = gathered (answerOf groupOf w m x)
-outcomeOf (decode w m) = decoded (decodeAnswer w m)
-outcomeOf (butterfly w cs x) = carried (carryAnswer butterflyOf w (record { stages = cs }) x)
-outcomeOf (route w es) = routed (routeAnswer w es)
-outcomeOf (routeButterfly w es) = routedOne (oneAnswer butterflyFits butterflyAlone w es)
-outcomeOf (routeInverse w es) = routedOne (oneAnswer inverseFits inverseAlone w es)
-outcomeOf (run k bytes budget) = ended (runOf k bytes budget)
+unfoldable pub rowOutcome : Call → List ℕ
+rowOutcome (gather w m x) = gathered (answerOf gatherOf w m x)
+rowOutcome (scatter w m x) = gathered (answerOf scatterOf w m x)
+rowOutcome (group w m x) = gathered (answerOf groupOf w m x)
+rowOutcome (decode w m) = decoded (decodeAnswer w m)
+rowOutcome (butterfly w cs x) = carried (networkAnswer butterflyOf w (record { stages = cs }) x)
+rowOutcome (route w es) = routed (routeAnswer w es)
+rowOutcome (routeButterfly w es) = routedOne (oneAnswer butterflyFits butterflyAlone w es)
+rowOutcome (routeInverse w es) = routedOne (oneAnswer inverseFits inverseAlone w es)
+rowOutcome (run k bytes budget) = ended (runOf k bytes budget)
 
 pub record Row : Type 0 where
   pub call : Call
@@ -99,4 +99,4 @@ rows =
 -- every row of a list holds: its call has its outcome
 abbrev pub Hold : List Row → Type 0
 Hold [] = Unit
-Hold (r ∷ rs) = (outcomeOf (r .call) ≡ r .outcome) × Hold rs
+Hold (r ∷ rs) = (rowOutcome (r .call) ≡ r .outcome) × Hold rs

@@ -9,9 +9,9 @@ use lib.ListN.{length, getD, set as store, length-set}
 use lib.Seq.{getD-set-same, getD-set-other}
 use Rattle.routing.specs.FirstControls.{Permutes}
 use Rattle.routing.specs.Lists.{find, entry, ListPermutes}
-use Rattle.routing.proofs.Lists.{list-permutes}
+use Rattle.routing.proofs.ListControls.{list-permutes}
 use Rattle.first.specs.Blocks.{placeIn, Placed}
-use Rattle.first.proofs.Routes.{permutes-cong}
+use Rattle.first.proofs.BlockHalves.{permutes-cong}
 
 -- the first k entries are laid down
 pub record PlacedBelow (k : ℕ) (entries to from : List ℕ) : Type 0 where

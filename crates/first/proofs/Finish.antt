@@ -7,18 +7,18 @@ use native.Mathlib.Omega.{arith}
 use lib.Pow.{pow-mono}
 use lib.ListN.{length, getD, replicate, length-replicate, getD-replicate}
 use Rattle.network.specs.Calls.{six}
-use Rattle.routing.specs.Stages.{Controls}
+use Rattle.routing.specs.Stages.{StageControls}
 use Rattle.routing.specs.FirstControls.{Permutes, IsFirst}
 use Rattle.routing.specs.Lists.{entry, ListPermutes, butterflyWords, inverseWords, wordsOf, firstWords}
 use Rattle.routing.proofs.FirstControls.{reads-first}
-use Rattle.routing.proofs.Words.{first-words-unique}
+use Rattle.routing.proofs.StageWords.{first-words-unique}
 use Rattle.first.specs.Marks.{row, controlsIn}
-use Rattle.first.specs.Blocks.{placeIn, Routable, Routed, Placed}
+use Rattle.first.specs.Blocks.{placeIn, Routable, BlockRouted, Placed}
 use Rattle.first.proofs.Storing.{slot-small, mark-unset}
 
 -- only the entries that the network has count
 first-same :
-    (n : ℕ) (C : Controls) (π π′ : ℕ → ℕ) → ((p : ℕ) → p < 2 ^ n → π p ≡ π′ p) → IsFirst n C π → IsFirst n C π′
+    (n : ℕ) (C : StageControls) (π π′ : ℕ → ℕ) → ((p : ℕ) → p < 2 ^ n → π p ≡ π′ p) → IsFirst n C π → IsFirst n C π′
 first-same n C π π′ same is =
     record {
       brings = λ p l. is .brings p l ∙ same p l;
@@ -61,7 +61,7 @@ module _ (log : ℕ) (entries : List ℕ) (small : log ≤ 6) (is : ListPermutes
 
     pub routed-first :
         (to′ from′ marks′ : List ℕ)
-        → Routed e 0 to from (replicate 384 1) to′ from′ marks′
+        → BlockRouted e 0 to from (replicate 384 1) to′ from′ marks′
         → wordsOf log (controlsIn 0 marks′) ≡ firstWords log entries
     routed-first to′ from′ marks′ routed =
         let C = controlsIn 0 marks′ in

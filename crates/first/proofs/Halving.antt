@@ -12,7 +12,7 @@ use lib.Seq.{getD-set-same, getD-set-other}
 use Rattle.routing.specs.Place.{weight}
 use Rattle.routing.specs.Loop.{xor}
 use Rattle.routing.specs.Level.{halfTo}
-use Rattle.first.specs.Marks.{Fits}
+use Rattle.first.specs.Marks.{BlockFits}
 use Rattle.first.specs.Blocks.{placeIn, PlacesKept, Halved}
 
 xor-low : (b : Bool) → xor b false ≡ b
@@ -39,7 +39,7 @@ module _ (e b : ℕ) (g : ℕ → Bool) (entries : List ℕ) where
   halve-end now d = record { long = d .long; halves = d .done; kept = d .kept }
 
   module _
-      (fits : Fits e b)
+      (fits : BlockFits e b)
       (long : length entries ≡ 64)
       (k : ℕ)
       (now : List ℕ)

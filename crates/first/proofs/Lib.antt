@@ -1,7 +1,7 @@
 pub mod Storing
 pub mod Walking
 pub mod Halving
-pub mod Routes
+pub mod BlockHalves
 pub mod Entries
-pub mod Columns
+pub mod MarkWords
 pub mod Finish

@@ -15,22 +15,22 @@ use borrow.Author.Tests.{eq-eqb, ne-eqb, leb-true, leb-false, lt-ltb, le-ltb}
 use Rattle.routing.specs.Marks.{unset, set}
 use Rattle.routing.specs.Stages.{Stage, Butterfly, Inverse, exponent}
 use Rattle.routing.proofs.Arrays.{store-sets}
-use Rattle.first.specs.Marks.{swaps, markOf, row, Fits, Marked}
+use Rattle.first.specs.Marks.{markSwaps, markOf, row, BlockFits, MarksSet}
 
 pub mark-unset : (x : ℕ) → x ≡ 1 → markOf x ≡ unset
 unfolding markOf
-mark-unset x e = ap (λ (b : Bool). cond b unset (set (swaps x))) (eq-eqb x 1 e)
+mark-unset x e = ap (λ (b : Bool). cond b unset (set (markSwaps x))) (eq-eqb x 1 e)
 
-pub mark-set : (x : ℕ) → x ≢ 1 → markOf x ≡ set (swaps x)
+pub mark-set : (x : ℕ) → x ≢ 1 → markOf x ≡ set (markSwaps x)
 unfolding markOf
-mark-set x ne = ap (λ (b : Bool). cond b unset (set (swaps x))) (ne-eqb x 1 ne)
+mark-set x ne = ap (λ (b : Bool). cond b unset (set (markSwaps x))) (ne-eqb x 1 ne)
 
 -- a settled mark has its control
-pub mark-swaps : (x : ℕ) (v : Bool) → markOf x ≡ set v → swaps x ≡ v
+pub mark-swaps : (x : ℕ) (v : Bool) → markOf x ≡ set v → markSwaps x ≡ v
 unfolding markOf
 mark-swaps x v e = go (eqb x 1) e
   where
-    go : (b : Bool) → cond b unset (set (swaps x)) ≡ set v → swaps x ≡ v
+    go : (b : Bool) → cond b unset (set (markSwaps x)) ≡ set v → markSwaps x ≡ v
     go true q = absurd (let z : _≡_ {A = ℕ} 0 1 = cc in omega arith)
     go false q = cc
 
@@ -61,7 +61,7 @@ pub mark-stored :
     → b + s < 32
     → row c + b + s < length marks
     → markOf x ≡ set v
-    → Marked e b c s v marks (store marks (row c + b + s) x)
+    → MarksSet e b c s v marks (store marks (row c + b + s) x)
 mark-stored e b c s v x marks he hs l m =
     record {
       sets = store-sets e markOf marks (row c + b) s x v l m;
@@ -78,15 +78,15 @@ slot-small (Inverse e) i he hi = omega arith
 -- the switch t of a bit or place y in a block
 pub switch-marked :
     (e b : ℕ) (c : Stage) (y : ℕ) (v : Bool) (marks : List ℕ) (x : ℕ) {t : ℕ}
-    → Fits e b
+    → BlockFits e b
     → exponent c ≡ e
     → length marks ≡ 384
     → t ≡ y % 2 ^ e
     → markOf x ≡ set v
-    → Marked e b c (y % 2 ^ e) v marks (store marks (row c + b + t) x)
+    → MarksSet e b c (y % 2 ^ e) v marks (store marks (row c + b + t) x)
 switch-marked e b c y v marks x {t} f ce l q m =
     let s = y % 2 ^ e in
     let he : exponent c < 6 = omega (arith, f .stage) in
     let hs : b + s < 32 = omega (arith, f .room, mod-lt y (pow-pos e)) in
-    subst (λ (t : ℕ). Marked e b c s v marks (store marks (row c + b + t) x)) (sym q)
+    subst (λ (t : ℕ). MarksSet e b c s v marks (store marks (row c + b + t) x)) (sym q)
     (mark-stored e b c s v x marks he hs (omega (arith, slot-small c (b + s) he hs)) m)

@@ -16,11 +16,11 @@ use Rattle.routing.specs.Marks.{Mark, unset, Marks, isUnset, countUnset}
 use Rattle.routing.specs.Stages.{Stage, Butterfly, Inverse, exponent}
 use Rattle.routing.specs.Level.{other, Sets}
 use Rattle.routing.specs.FirstControls.{Permutes}
-use Rattle.routing.proofs.Places.{num-lt}
+use Rattle.routing.proofs.PlaceNumbers.{num-lt}
 use Rattle.routing.proofs.Level.{other-small}
 use Rattle.routing.proofs.Arrays.{count-falls}
-use Rattle.routing.proofs.Steps.{At, After, done-start, done-skip, at-start, at-small, at-last, after-end, after-unset, after-next}
-use Rattle.first.specs.Marks.{swaps, markOf, row, marksAt, Fits, InOuter, Kept, Marked}
+use Rattle.routing.proofs.WalkSteps.{At, After, done-start, done-skip, at-start, at-small, at-last, after-end, after-unset, after-next}
+use Rattle.first.specs.Marks.{markSwaps, markOf, row, marksAt, BlockFits, InOuter, Kept, MarksSet}
 use Rattle.first.specs.Blocks.{placeIn, Settled, AtLast, AtFirst, Stepped, Routable}
 use Rattle.first.proofs.Storing.{mark-unset, mark-set}
 
@@ -89,13 +89,13 @@ pub kept-trans :
     → Kept In marks marks″
 kept-trans In marks marks′ marks″ k l c i he hi out = l c i he hi out ∙ k c i he hi out
 
-module _ (e b : ℕ) (f : Fits e b) where
+module _ (e b : ℕ) (f : BlockFits e b) where
   -- a mark of one outer stage leaves the other as it is
   marked-beside :
       (c d : Stage) (s : ℕ) (v : Bool) (marks marks′ : List ℕ)
       → exponent d ≡ e
       → ¬ (d ≡ c)
-      → Marked e b c s v marks marks′
+      → MarksSet e b c s v marks marks′
       → (t : ℕ)
       → t < 2 ^ e
       → marksAt d b marks′ t ≡ marksAt d b marks t
@@ -109,7 +109,7 @@ module _ (e b : ℕ) (f : Fits e b) where
       (c : Stage) (s : ℕ) (v : Bool) (marks marks′ : List ℕ)
       → exponent c ≡ e
       → s < 2 ^ e
-      → Marked e b c s v marks marks′
+      → MarksSet e b c s v marks marks′
       → Kept (InOuter e b) marks marks′
   marked-kept c s v marks marks′ ce l m d i he hi out =
       m .kept d i he hi
@@ -137,13 +137,13 @@ module _ (e b : ℕ) (to from : List ℕ) where
     module _
         {p o x w : ℕ}
         (pq : p ≡ ρ y)
-        (stored : Marked e b (Inverse e) (p % 2 ^ e) (not (leb (2 ^ e) p)) marks marks′)
+        (stored : MarksSet e b (Inverse e) (p % 2 ^ e) (not (leb (2 ^ e) p)) marks marks′)
         (oq : o ≡ other e p)
         (xq : x ≡ π o)
         (wq : w ≡ x % 2 ^ e)
       where
-        m : Marked e b (Inverse e) (ρ y % 2 ^ e) (not (leb (2 ^ e) (ρ y))) marks marks′
-        m = subst (λ (p : ℕ). Marked e b (Inverse e) (p % 2 ^ e) (not (leb (2 ^ e) p)) marks marks′) pq stored
+        m : MarksSet e b (Inverse e) (ρ y % 2 ^ e) (not (leb (2 ^ e) (ρ y))) marks marks′
+        m = subst (λ (p : ℕ). MarksSet e b (Inverse e) (p % 2 ^ e) (not (leb (2 ^ e) p)) marks marks′) pq stored
 
         next : x ≡ π (other e (ρ y))
         next = xq ∙ ap π (oq ∙ ap (other e) pq)
@@ -203,7 +203,7 @@ module _ (e b : ℕ) (to from : List ℕ) where
       (s x : ℕ)
       (marks marks′ : List ℕ)
       (at : AtFirst e b to from s x marks)
-      (m : Marked e b (Butterfly e) (x % 2 ^ e) (leb (2 ^ e) x) marks marks′)
+      (m : MarksSet e b (Butterfly e) (x % 2 ^ e) (leb (2 ^ e) x) marks marks′)
     where
       pub first-kept : Kept (InOuter e b) marks marks′
       first-kept =
@@ -247,7 +247,7 @@ module _ (e b : ℕ) (to from : List ℕ) where
           (at .walk) ne)
 
   -- a switch that is settled already, and one that passes
-  module _ (s : ℕ) (marks : List ℕ) (f : Fits e b) (l : s < 2 ^ e) (settled : Settled e b to from s marks) where
+  module _ (s : ℕ) (marks : List ℕ) (f : BlockFits e b) (l : s < 2 ^ e) (settled : Settled e b to from s marks) where
     pub visit-skip : getD marks (32 * e + b + s) 0 ≢ 1 → Stepped e b to from (suc s) marks marks
     visit-skip ne =
         record {
@@ -256,14 +256,14 @@ module _ (e b : ℕ) (to from : List ℕ) where
                 long = settled .long;
                 perm = settled .perm;
                 done =
-                    done-skip e π ρ (settled .perm) s (swaps (getD marks (32 * e + b + s) 0))
+                    done-skip e π ρ (settled .perm) s (markSwaps (getD marks (32 * e + b + s) 0))
                     (marksAt (Butterfly e) b marks) (marksAt (Inverse e) b marks) l (settled .done)
                     (mark-set (getD marks (32 * e + b + s) 0) ne);
               };
           kept = λ c i he hi out. refl;
         }
 
-    module _ (marks′ : List ℕ) (m : Marked e b (Butterfly e) (s % 2 ^ e) (leb (2 ^ e) s) marks marks′) where
+    module _ (marks′ : List ℕ) (m : MarksSet e b (Butterfly e) (s % 2 ^ e) (leb (2 ^ e) s) marks marks′) where
       pub visit-kept : Kept (InOuter e b) marks marks′
       visit-kept =
           marked-kept e b f (Butterfly e) (s % 2 ^ e) (leb (2 ^ e) s) marks marks′ refl (mod-lt s (pow-pos e)) m

@@ -11,9 +11,9 @@ use Rattle.routing.specs.Stages.{Butterfly, Inverse}
 use Rattle.routing.specs.FirstControls.{Permutes}
 use Rattle.routing.specs.Level.{other, halfTo}
 use Rattle.routing.specs.Lists.{entry}
-use Rattle.routing.proofs.Steps.{Done, At, After}
+use Rattle.routing.proofs.WalkSteps.{Done, At, After}
 use Rattle.routing.proofs.Level.{ReadsFirst}
-use Rattle.first.specs.Marks.{marksAt, swapsFrom, controlsIn, Fits, InOuter, InBlock, Kept, Fresh}
+use Rattle.first.specs.Marks.{marksAt, swapsFrom, controlsIn, BlockFits, InOuter, InBlock, Kept, Fresh}
 
 -- the block's entry p: its places are number 2b to 2b + 2^(e+1) - 1
 abbrev pub placeIn : List ℕ → ℕ → ℕ → ℕ
@@ -31,14 +31,14 @@ pub record Settled (e b : ℕ) (to from : List ℕ) (k : ℕ) (marks : List ℕ)
 -- on the loop of switch s, before the last switch of bit y
 pub record AtLast (e b : ℕ) (to from : List ℕ) (s y : ℕ) (marks : List ℕ) : Type 0 where
   pub long : length marks ≡ 384
-  pub fits : Fits e b
+  pub fits : BlockFits e b
   pub perm : BlockPermutes e b to from
   pub walk : At e (placeIn to b) (placeIn from b) perm s y (marksAt (Butterfly e) b marks) (marksAt (Inverse e) b marks)
 
 -- on the loop of switch s, before the first switch of bit x, which is not s
 pub record AtFirst (e b : ℕ) (to from : List ℕ) (s x : ℕ) (marks : List ℕ) : Type 0 where
   pub long : length marks ≡ 384
-  pub fits : Fits e b
+  pub fits : BlockFits e b
   pub perm : BlockPermutes e b to from
   pub last : ℕ
   pub walk : After e (placeIn to b) (placeIn from b) perm s last (marksAt (Butterfly e) b marks) (marksAt (Inverse e) b marks)
@@ -73,12 +73,12 @@ pub record Routable (e b : ℕ) (to from marks : List ℕ) : Type 0 where
   pub long : length marks ≡ 384
   pub to-long : length to ≡ 64
   pub from-long : length from ≡ 64
-  pub fits : Fits e b
+  pub fits : BlockFits e b
   pub perm : BlockPermutes e b to from
   pub fresh : Fresh e b marks
 
 -- and one that is: it has the first controls
-pub record Routed (e b : ℕ) (to from marks to′ from′ marks′ : List ℕ) : Type 0 where
+pub record BlockRouted (e b : ℕ) (to from marks to′ from′ marks′ : List ℕ) : Type 0 where
   pub long : length marks′ ≡ 384
   pub to-long : length to′ ≡ 64
   pub from-long : length from′ ≡ 64

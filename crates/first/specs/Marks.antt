@@ -8,15 +8,15 @@ use lib.Dec.{eqb}
 use lib.ListN.{length, getD}
 use Rattle.routing.specs.Marks.{Mark, unset, set}
 use Rattle.routing.specs.Level.{Sets}
-use Rattle.routing.specs.Stages.{Stage, Butterfly, Inverse, exponent, Controls}
+use Rattle.routing.specs.Stages.{Stage, Butterfly, Inverse, exponent, StageControls}
 
 -- bit 0 of a mark is the control bit: zero swaps
-unfoldable pub swaps : ℕ → Bool
-swaps x = eqb (x % 2) 0
+unfoldable pub markSwaps : ℕ → Bool
+markSwaps x = eqb (x % 2) 0
 
 -- 1 passes and is not settled yet; all others are settled
 unfoldable pub markOf : ℕ → Mark
-markOf x = cond (eqb x 1) unset (set (swaps x))
+markOf x = cond (eqb x 1) unset (set (markSwaps x))
 
 -- where the marks of a stage begin, 32 for each
 abbrev pub row : Stage → ℕ
@@ -28,13 +28,13 @@ abbrev pub marksAt : Stage → ℕ → List ℕ → ℕ → Mark
 marksAt c b marks s = markOf (getD marks (row c + b + s) 0)
 
 abbrev pub swapsFrom : List ℕ → ℕ → ℕ → Bool
-swapsFrom marks at s = swaps (getD marks (at + s) 0)
+swapsFrom marks at s = markSwaps (getD marks (at + s) 0)
 
-abbrev pub controlsIn : ℕ → List ℕ → Controls
-controlsIn b marks c s = swaps (getD marks (row c + b + s) 0)
+abbrev pub controlsIn : ℕ → List ℕ → StageControls
+controlsIn b marks c s = markSwaps (getD marks (row c + b + s) 0)
 
 -- A block of the network: its outer stages have exponent e, and their switches are number b to b + 2^e - 1.
-pub record Fits (e b : ℕ) : Type 0 where
+pub record BlockFits (e b : ℕ) : Type 0 where
   pub stage : e < 6
   pub room : b + 2 ^ e ≤ 32
 
@@ -55,7 +55,7 @@ Kept In marks marks′ =
     (c : Stage) (i : ℕ) → exponent c < 6 → i < 32 → ¬ In c i → getD marks′ (row c + i) 0 ≡ getD marks (row c + i) 0
 
 -- switch s of the block's part of stage c is set, and no other
-pub record Marked (e b : ℕ) (c : Stage) (s : ℕ) (v : Bool) (marks marks′ : List ℕ) : Type 0 where
+pub record MarksSet (e b : ℕ) (c : Stage) (s : ℕ) (v : Bool) (marks marks′ : List ℕ) : Type 0 where
   pub sets : Sets e (marksAt c b marks) s v (marksAt c b marks′)
   pub kept : Kept (λ d i. (d ≡ c) × (i ≡ b + s)) marks marks′
   pub long : length marks′ ≡ length marks

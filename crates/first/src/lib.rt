@@ -10,8 +10,8 @@ ghost use Rattle.routing.specs.Marks.{set};
 ghost use Rattle.routing.specs.Stages.{Butterfly, Inverse};
 ghost use Rattle.routing.specs.Level.{other};
 ghost use Rattle.routing.specs.Lists.{ListPermutes, wordOf, wordsOf, firstWords};
-ghost use Rattle.first.specs.Marks.{markOf, swapsFrom, controlsIn, Fits, Marked};
-ghost use Rattle.first.specs.Blocks.{placeIn, Settled, AtLast, AtFirst, Stepped, Halved, Peeled, Routable, Routed, Placed};
+ghost use Rattle.first.specs.Marks.{markOf, swapsFrom, controlsIn, BlockFits, MarksSet};
+ghost use Rattle.first.specs.Blocks.{placeIn, Settled, AtLast, AtFirst, Stepped, Halved, Peeled, Routable, BlockRouted, Placed};
 
 // The stages of both networks in the direction of travel.
 pub struct Stages {
@@ -78,16 +78,16 @@ fn entry_of(entries: &[u8; 64], b: usize, p: usize) -> usize
 
 // internal: a block, and a place of it that is fed from the upper half. That settles its last switch.
 fn mark_last(marks: &mut [u8; 384], e: usize, b: usize, place: usize)
-    requires { ⌜ (Fits e b) × (length (now marks) ≡ 384) ⌝ }
-    ensures { λ _. ⌜ Marked e b (Inverse e) (place % 2 ^ e) (not (leb (2 ^ e) place)) (now (marks .entry)) (now (marks .exit)) ⌝ }
+    requires { ⌜ (BlockFits e b) × (length (now marks) ≡ 384) ⌝ }
+    ensures { λ _. ⌜ MarksSet e b (Inverse e) (place % 2 ^ e) (not (leb (2 ^ e) place)) (now (marks .entry)) (now (marks .exit)) ⌝ }
 {
     marks[192 + 32 * e + b + switch_of(e, place)] = mark(place < power(e));
 }
 
 // internal: a block, and a bit that goes to its lower half. That settles its first switch.
 fn mark_first(marks: &mut [u8; 384], e: usize, b: usize, bit: usize)
-    requires { ⌜ (Fits e b) × (length (now marks) ≡ 384) ⌝ }
-    ensures { λ _. ⌜ Marked e b (Butterfly e) (bit % 2 ^ e) (leb (2 ^ e) bit) (now (marks .entry)) (now (marks .exit)) ⌝ }
+    requires { ⌜ (BlockFits e b) × (length (now marks) ≡ 384) ⌝ }
+    ensures { λ _. ⌜ MarksSet e b (Butterfly e) (bit % 2 ^ e) (leb (2 ^ e) bit) (now (marks .entry)) (now (marks .exit)) ⌝ }
 {
     marks[32 * e + b + switch_of(e, bit)] = mark(power(e) <= bit);
 }
@@ -135,7 +135,7 @@ fn first_step(
 
 // internal: a block, and a switch of its outer stages with those below it settled. It passes if it is not settled yet.
 fn visit(to: &[u8; 64], from: &[u8; 64], marks: &mut [u8; 384], e: usize, b: usize, s: usize)
-    requires { ⌜ (Fits e b) × (s < 2 ^ e) × (Settled e b (now to) (now from) s (now marks)) ⌝ }
+    requires { ⌜ (BlockFits e b) × (s < 2 ^ e) × (Settled e b (now to) (now from) s (now marks)) ⌝ }
     ensures { λ _. ⌜ Stepped e b (now (to .entry)) (now (from .entry)) (suc s) (now (marks .entry)) (now (marks .exit)) ⌝ }
 {
     if marks[32 * e + b + s] != UNSET {
@@ -171,7 +171,7 @@ fn pick(first: bool, x: u8, y: u8) -> u8
 // internal: a block, a switch of its outer stages, and the half of an entry there. The entry within its own half. Both are read, so that
 // no branch hangs on the mark.
 fn half_entry(entries: &[u8; 64], e: usize, b: usize, q: usize, upper: bool) -> u8
-    requires { ⌜ (Fits e b) × (q < 2 ^ e) ⌝ }
+    requires { ⌜ (BlockFits e b) × (q < 2 ^ e) ⌝ }
     ensures { λ r. ⌜ r ≡ placeIn (now (entries .entry)) b (weight upper e + q) % 2 ^ e ⌝ }
 {
     let half = power(e);
@@ -182,7 +182,7 @@ fn half_entry(entries: &[u8; 64], e: usize, b: usize, q: usize, upper: bool) -> 
 
 // internal: a block, and the marks of one of its outer stages. The permutation between the outer stages: each half by itself.
 fn halve(entries: &mut [u8; 64], marks: &[u8; 384], at: usize, e: usize, b: usize)
-    requires { ⌜ (Fits e b) × (at + 2 ^ e ≤ 384) × (length (now entries) ≡ 64) ⌝ }
+    requires { ⌜ (BlockFits e b) × (at + 2 ^ e ≤ 384) × (length (now entries) ≡ 64) ⌝ }
     ensures { λ _. ⌜ Halved e b (swapsFrom (now (marks .entry)) at) (now (entries .entry)) (now (entries .exit)) ⌝ }
 {
     let half = power(e);
@@ -210,7 +210,7 @@ fn peel(to: &mut [u8; 64], from: &mut [u8; 64], marks: &mut [u8; 384], e: usize,
 // internal: a block with no switch settled. Its outer stages, then each half, which has one stage less on either side.
 fn route(to: &mut [u8; 64], from: &mut [u8; 64], marks: &mut [u8; 384], e: usize, b: usize)
     requires { ⌜ Routable e b (now to) (now from) (now marks) ⌝ }
-    ensures { λ _. ⌜ Routed e b (now (to .entry)) (now (from .entry)) (now (marks .entry)) (now (to .exit)) (now (from .exit)) (now (marks .exit)) ⌝ }
+    ensures { λ _. ⌜ BlockRouted e b (now (to .entry)) (now (from .entry)) (now (marks .entry)) (now (to .exit)) (now (from .exit)) (now (marks .exit)) ⌝ }
 {
     peel(to, from, marks, e, b);
     if e == 0 {

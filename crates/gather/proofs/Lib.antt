@@ -1,5 +1,5 @@
-pub mod Steps
-pub mod Calls
+pub mod AnyWidth
+pub mod MaskAnswers
 pub mod Theorems
 pub mod Gaps
-pub mod Routes
+pub mod BitRoutes

@@ -17,8 +17,8 @@ use Rattle.bits.proofs.Places.{bit-pick, bit-pick-above, pick-lt, unmarked-not,
 use borrow.Author.Tests.{lt-ltb}
 use Rattle.gather.specs.declared.Gathered.{Gathered}
 use Rattle.gather.specs.Gather.{gatherOf, scatterOf, groupOf, refusalOf, answerOf}
-use Rattle.gather.proofs.Steps.{gather-lt, scatter-lt}
-use Rattle.gather.proofs.Calls.{carried-out, within, refusal-by}
+use Rattle.gather.proofs.AnyWidth.{gather-lt, scatter-lt}
+use Rattle.gather.proofs.MaskAnswers.{carried-out, within, refusal-by}
 
 module _ (w m x : ℕ) where
   -- Gather by rank: a marked bit comes to the place that counts the marked bits below it

@@ -15,20 +15,20 @@ use Rattle.bits.specs.Refusal.{logOf, accepted, fits}
 use Rattle.bits.proofs.Refusals.{log-width, log-le}
 use Rattle.gather.specs.declared.Gathered.{Gathered}
 use Rattle.gather.specs.Gather.{gatherOf, scatterOf, refusalOf, answerOf}
-use Rattle.gather.proofs.Calls.{within, carried-out}
+use Rattle.gather.proofs.MaskAnswers.{within, carried-out}
 use Rattle.network.specs.Stage.{falling, rising, butterflyOf, inverseOf}
-use Rattle.network.specs.Decoder.{column, decodeOf, decodeInverseOf}
+use Rattle.network.specs.Decoder.{decodedStage, decodeOf, decodeInverseOf}
 use Rattle.network.specs.declared.Controls.{Controls}
 use Rattle.network.specs.declared.Carried.{Carried}
 use Rattle.network.specs.declared.Prepared.{Prepared}
 use Rattle.network.specs.declared.Decoded.{Decoded}
 use Rattle.network.specs.Word.{exchangesOf, preparedOf, travelOf}
-use Rattle.network.specs.Calls.{usedBits, controlsFit, carryRefusal, carryAnswer, prepareAnswer, six, controls, decodeAnswer}
+use Rattle.network.specs.Calls.{usedBits, controlsFit, networkRefusal, networkAnswer, prepareAnswer, six, controls, decodeAnswer}
 use Rattle.network.proofs.Travel.{length-falling, length-rising}
 use Rattle.network.proofs.Filling.{map-at, reverse-at}
-use Rattle.network.proofs.Routing.{column-lt, length-decode, undo, undo-inverse, butterfly-lt, inverse-lt, mask-routing-scatter, mask-routing-gather}
-use Rattle.network.proofs.Six.{travel-own, carry-fall, carry-rise}
-use Rattle.network.proofs.Calls.{carry-refusal-by, carry-within, carry-done, prepare-done, decode-refusal-by, each-fit}
+use Rattle.network.proofs.MaskRouting.{decoded-stage-lt, length-decode, undo, undo-inverse, butterfly-lt, inverse-lt, mask-routing-scatter, mask-routing-gather}
+use Rattle.network.proofs.Six.{travel-own, six-butterfly, six-inverse}
+use Rattle.network.proofs.NetworkAnswers.{network-refusal-by, network-within, network-done, prepare-done, decode-refusal-by, each-fit}
 
 getD-zeros : (n i : ℕ) → _≡_ {A = ℕ} (getD (replicate n 0) i 0) 0
 getD-zeros zero i = refl
@@ -71,9 +71,9 @@ decode-is : (w m : ℕ) → accepted w ≡ true → m < 2 ^ w
 unfolding decodeAnswer
 decode-is w m a h = rw (decode-refusal-by w m a (lt-ltb m (2 ^ w) h))
 
-carry-is : (f : ℕ → List ℕ → ℕ → ℕ) (w : ℕ) (k : Controls) (x : ℕ) → accepted w ≡ true → x < 2 ^ w → controlsFit (logOf w) 0 (k .stages) ≡ true
-    → carryAnswer f w k x ≡ record { refusal = 0; word = f (logOf w) (k .stages) x }
-carry-is f w k x a h g = sym (carry-done f w k x (sym (carry-refusal-by w (k .stages) x a (lt-ltb x (2 ^ w) h) g)) refl refl refl)
+network-is : (f : ℕ → List ℕ → ℕ → ℕ) (w : ℕ) (k : Controls) (x : ℕ) → accepted w ≡ true → x < 2 ^ w → controlsFit (logOf w) 0 (k .stages) ≡ true
+    → networkAnswer f w k x ≡ record { refusal = 0; word = f (logOf w) (k .stages) x }
+network-is f w k x a h g = sym (network-done f w k x (sym (network-refusal-by w (k .stages) x a (lt-ltb x (2 ^ w) h) g)) refl refl refl)
 
 -- a network looks at its own stages only
 abbrev pub OwnStages : (ℕ → List ℕ → ℕ → ℕ) → Type 0
@@ -101,14 +101,14 @@ decode-fits : (L m : ℕ) → EachFits L (decodeOf L m)
 unfolding decodeOf
 decode-fits L m = (
   length-decode L m,
-  λ i h. rw (map-at (column (2 ^ L) m) (falling L) i (omega (arith, length-falling L))) (column-lt (2 ^ L) m (getD (falling L) i 0)),
+  λ i h. rw (map-at (decodedStage (2 ^ L) m) (falling L) i (omega (arith, length-falling L))) (decoded-stage-lt (2 ^ L) m (getD (falling L) i 0)),
 )
 
 -- a call on L stages that fit
 pub on-stages : (f : ℕ → List ℕ → ℕ → ℕ) → OwnStages f → (w : ℕ) (cs : List ℕ) (x : ℕ) → accepted w ≡ true → x < 2 ^ w → EachFits (logOf w) cs
-    → carryAnswer f w (controls cs) x ≡ record { refusal = 0; word = f (logOf w) cs x }
+    → networkAnswer f w (controls cs) x ≡ record { refusal = 0; word = f (logOf w) cs x }
 on-stages f own w cs x a h g =
-    carry-is f w (controls cs) x a h (six-fit (logOf w) cs (log-le w) (g .0) (g .1))
+    network-is f w (controls cs) x a h (six-fit (logOf w) cs (log-le w) (g .0) (g .1))
     ∙ ap (λ (y : ℕ). record { refusal = 0; word = y }) (own (logOf w) cs (replicate (6 - length cs) 0) (g .0) x)
 
 module _ (w m x : ℕ) (h : refusalOf w m x ≡ 0) where
@@ -122,8 +122,8 @@ module _ (w m x : ℕ) (h : refusalOf w m x ≡ 0) where
   decoded = decodeAnswer w m
 
   -- The word through the butterfly on the decoded controls, unmarked bits zeroed after, is what the scatter call answers.
-  pub calls-route-scatter : (carryAnswer butterflyOf w (decoded .butterfly) x .refusal ≡ 0)
-      × (bitAnd (carryAnswer butterflyOf w (decoded .butterfly) x .word) m ≡ answerOf scatterOf w m x .word)
+  pub calls-route-scatter : (networkAnswer butterflyOf w (decoded .butterfly) x .refusal ≡ 0)
+      × (bitAnd (networkAnswer butterflyOf w (decoded .butterfly) x .word) m ≡ answerOf scatterOf w m x .word)
   calls-route-scatter =
       let k = decode-is w m (limits .0) (limits .2) in
       let c = on-stages butterflyOf butterfly-own w (decodeOf (logOf w) m) x (limits .0) (limits .1) (decode-fits (logOf w) m) in
@@ -134,8 +134,8 @@ module _ (w m x : ℕ) (h : refusalOf w m x ≡ 0) where
       rw (k, c) (refl, r ∙ s)
 
   -- The word with unmarked bits zeroed, through the inverse on the controls decoded for it, is what the gather call answers.
-  pub calls-route-gather : (carryAnswer inverseOf w (decoded .inverse) (bitAnd x m) .refusal ≡ 0)
-      × (carryAnswer inverseOf w (decoded .inverse) (bitAnd x m) .word ≡ answerOf gatherOf w m x .word)
+  pub calls-route-gather : (networkAnswer inverseOf w (decoded .inverse) (bitAnd x m) .refusal ≡ 0)
+      × (networkAnswer inverseOf w (decoded .inverse) (bitAnd x m) .word ≡ answerOf gatherOf w m x .word)
   unfolding decodeInverseOf
   calls-route-gather =
       let k = decode-is w m (limits .0) (limits .2) in
@@ -159,10 +159,10 @@ module _ (f g : ℕ → List ℕ → ℕ → ℕ) (own-f : OwnStages f) (own-g :
     (keeps : (L : ℕ) (cs : List ℕ) (x : ℕ) → x < 2 ^ 2 ^ L → f L cs x < 2 ^ 2 ^ L)
     (back : (L : ℕ) (cs : List ℕ) → length cs ≡ L → (x : ℕ) → x < 2 ^ 2 ^ L → g L (reverse cs) (f L cs x) ≡ x)
   where
-    calls-back : (w : ℕ) (k : Controls) (x : ℕ) → length (k .stages) ≡ 6 → carryRefusal w (k .stages) x ≡ 0
-        → carryAnswer g w (controls (reverse (take (logOf w) (k .stages)))) (carryAnswer f w k x .word) ≡ record { refusal = 0; word = x }
+    calls-back : (w : ℕ) (k : Controls) (x : ℕ) → length (k .stages) ≡ 6 → networkRefusal w (k .stages) x ≡ 0
+        → networkAnswer g w (controls (reverse (take (logOf w) (k .stages)))) (networkAnswer f w k x .word) ≡ record { refusal = 0; word = x }
     calls-back w k x e h =
-        let i = carry-within w (k .stages) x h in
+        let i = network-within w (k .stages) x h in
         let n = log-width w (i .0) .0 in
         let L = logOf w in
         let cs = take L (k .stages) in
@@ -172,39 +172,39 @@ module _ (f g : ℕ → List ℕ → ℕ → ℕ) (own-f : OwnStages f) (own-g :
         ap (λ (s : List ℕ). f L s x) (sym (take-append-drop L (k .stages))) ∙ own-f L cs (drop L (k .stages)) (fit .0) x
         in
         let y : f L cs x < 2 ^ w = omega (arith, keeps L cs x hx, ap (λ (v : ℕ). 2 ^ v) n) in
-        rw (carry-is f w k x (i .0) (i .1) (i .2), own, on-stages g own-g w (reverse cs) (f L cs x) (i .0) y (reverse-fits L cs fit), back L cs (fit .0) x hx)
+        rw (network-is f w k x (i .0) (i .1) (i .2), own, on-stages g own-g w (reverse cs) (f L cs x) (i .0) y (reverse-fits L cs fit), back L cs (fit .0) x hx)
 
-pub calls-undo : (w : ℕ) (k : Controls) (x : ℕ) → length (k .stages) ≡ 6 → carryRefusal w (k .stages) x ≡ 0
-    → carryAnswer inverseOf w (controls (reverse (take (logOf w) (k .stages)))) (carryAnswer butterflyOf w k x .word) ≡ record { refusal = 0; word = x }
+pub calls-undo : (w : ℕ) (k : Controls) (x : ℕ) → length (k .stages) ≡ 6 → networkRefusal w (k .stages) x ≡ 0
+    → networkAnswer inverseOf w (controls (reverse (take (logOf w) (k .stages)))) (networkAnswer butterflyOf w k x .word) ≡ record { refusal = 0; word = x }
 calls-undo = calls-back butterflyOf inverseOf butterfly-own inverse-own (λ L cs x h. butterfly-lt L cs h) undo
 
-pub calls-undo-inverse : (w : ℕ) (k : Controls) (x : ℕ) → length (k .stages) ≡ 6 → carryRefusal w (k .stages) x ≡ 0
-    → carryAnswer butterflyOf w (controls (reverse (take (logOf w) (k .stages)))) (carryAnswer inverseOf w k x .word) ≡ record { refusal = 0; word = x }
+pub calls-undo-inverse : (w : ℕ) (k : Controls) (x : ℕ) → length (k .stages) ≡ 6 → networkRefusal w (k .stages) x ≡ 0
+    → networkAnswer butterflyOf w (controls (reverse (take (logOf w) (k .stages)))) (networkAnswer inverseOf w k x .word) ≡ record { refusal = 0; word = x }
 calls-undo-inverse = calls-back inverseOf butterflyOf inverse-own butterfly-own (λ L cs x h. inverse-lt L cs h) undo-inverse
 
--- Wherever a call of a network is carried out, the network made ready carries the word alike.
+-- Wherever a call of a network is carried out, the network made ready prepared-same the word alike.
 
-module _ (w : ℕ) (k : Controls) (hk : length (k .stages) ≡ 6) (x : ℕ) (h : carryRefusal w (k .stages) x ≡ 0) where
+module _ (w : ℕ) (k : Controls) (hk : length (k .stages) ≡ 6) (x : ℕ) (h : networkRefusal w (k .stages) x ≡ 0) where
   module _ (b : Bool) (f : ℕ → List ℕ → ℕ → ℕ) (g : List ℕ → ℕ)
       (same : (L : ℕ) → L ≤ 6 → x < 2 ^ 2 ^ L → g (preparedOf b L (k .stages)) ≡ f L (k .stages) x) where
-    carries : (prepareAnswer b w k .refusal ≡ 0) × (g (prepareAnswer b w k .swaps) ≡ carryAnswer f w k x .word)
-    carries =
-        let i = carry-within w (k .stages) x h in
+    prepared-same : (prepareAnswer b w k .refusal ≡ 0) × (g (prepareAnswer b w k .swaps) ≡ networkAnswer f w k x .word)
+    prepared-same =
+        let i = network-within w (k .stages) x h in
         let l = log-width w (i .0) in
-        let r = carry-refusal-by w (k .stages) 0 (i .0) (lt-ltb 0 (2 ^ w) (pow-pos w)) (i .2) in
+        let r = network-refusal-by w (k .stages) 0 (i .0) (lt-ltb 0 (2 ^ w) (pow-pos w)) (i .2) in
         let p = prepare-done b w k (sym r) refl refl refl in (
           ap (λ (a : Prepared). a .refusal) (sym p),
           ap (λ (a : Prepared). g (a .swaps)) (sym p)
               ∙ same (logOf w) (omega (arith, l .2)) (rw (l .0) at (i .1))
-              ∙ ap (λ (a : Carried). a .word) (carry-done f w k x (sym h) refl refl refl),
+              ∙ ap (λ (a : Carried). a .word) (network-done f w k x (sym h) refl refl refl),
         )
 
-  pub prepared-falls : (prepareAnswer false w k .refusal ≡ 0)
-      × (exchangesOf (falling 6) (prepareAnswer false w k .swaps) x ≡ carryAnswer butterflyOf w k x .word)
+  pub butterfly-prepared-same : (prepareAnswer false w k .refusal ≡ 0)
+      × (exchangesOf (falling 6) (prepareAnswer false w k .swaps) x ≡ networkAnswer butterflyOf w k x .word)
   unfolding butterflyOf travelOf
-  prepared-falls = carries false butterflyOf (λ ws. exchangesOf (falling 6) ws x) (λ L l d. carry-fall L l (k .stages) hk d)
+  butterfly-prepared-same = prepared-same false butterflyOf (λ ws. exchangesOf (falling 6) ws x) (λ L l d. six-butterfly L l (k .stages) hk d)
 
-  pub prepared-rises : (prepareAnswer true w k .refusal ≡ 0)
-      × (exchangesOf (rising 6) (reverse (prepareAnswer true w k .swaps)) x ≡ carryAnswer inverseOf w k x .word)
+  pub inverse-prepared-same : (prepareAnswer true w k .refusal ≡ 0)
+      × (exchangesOf (rising 6) (reverse (prepareAnswer true w k .swaps)) x ≡ networkAnswer inverseOf w k x .word)
   unfolding inverseOf travelOf
-  prepared-rises = carries true inverseOf (λ ws. exchangesOf (rising 6) (reverse ws) x) (λ L l d. carry-rise L l (k .stages) hk d)
+  inverse-prepared-same = prepared-same true inverseOf (λ ws. exchangesOf (rising 6) (reverse ws) x) (λ L l d. six-inverse L l (k .stages) hk d)

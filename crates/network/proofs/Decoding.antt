@@ -12,9 +12,9 @@ use Rattle.bits.specs.Bit.{bit, rank}
 use Rattle.bits.proofs.Word.{bit-lt, bit-cases, bit-mod-two, bit-ofBits, bit-and, ext}
 use Rattle.bits.proofs.Rank.{rank-le, rank-lt, rank-between, select}
 use Rattle.gather.specs.Gather.{gatherOf}
-use Rattle.gather.proofs.Steps.{gather-lt}
+use Rattle.gather.proofs.AnyWidth.{gather-lt}
 use Rattle.network.specs.Stage.{source, falling, butterflyOf}
-use Rattle.network.specs.Decoder.{turned, controlAt, column, decodeOf}
+use Rattle.network.specs.Decoder.{turned, controlAt, decodedStage, decodeOf}
 use Rattle.gather.proofs.Theorems.{bit-gather, bit-gather-above}
 use Rattle.network.proofs.Index.{place, on-places, block-lt, half-of, source-at}
 use Rattle.network.proofs.Turn.{turned-bit}
@@ -42,9 +42,9 @@ turns-near d r c e pos lo hi =
     sym (add-mul-div-right (c + (d - 1 - r % d)) e pos) ∙ ap (λ (n : ℕ). n / d) s ∙ digits-div (r / d + 1) (omega arith)
 
 module _ {w d : ℕ} (f : Fits w d) (m : ℕ) where
-  bit-column : (J t : ℕ) → J < f .blocks → t < d → bit (column w m d) (J * d + t) ≡ (count d m J + (d - 1 - t)) / d % 2
-  unfolding column controlAt
-  bit-column J t hJ ht =
+  bit-decoded-stage : (J t : ℕ) → J < f .blocks → t < d → bit (decodedStage w m d) (J * d + t) ≡ (count d m J + (d - 1 - t)) / d % 2
+  unfolding decodedStage controlAt
+  bit-decoded-stage J t hJ ht =
       let used : J * d + t < w / 2 = omega (arith, f .whole, digits-lt hJ ht) in
       bit-ofBits (w / 2) (controlAt d m) (J * d + t) used
       ∙ rw (digits-div J ht, digits-mod J ht) (bit-mod-two (turned d (count d m J)) t)
@@ -52,11 +52,11 @@ module _ {w d : ℕ} (f : Fits w d) (m : ℕ) where
 
   -- one stage more undone: from offset (rank mod d) of the marked place's half to offset (rank mod 2d) of its block
   source-marked : (p : ℕ) → p < w → bit m p ≡ 1
-      → source d (column w m d) (p / d * d + rank m p % d) ≡ p / (2 * d) * (2 * d) + rank m p % (2 * d)
+      → source d (decodedStage w m d) (p / d * d + rank m p % d) ≡ p / (2 * d) * (2 * d) + rank m p % (2 * d)
   source-marked = on-places (f .positive) _ at
     where
       at : (J e u : ℕ) → e < 2 → u < d → place d J e u < w → bit m (place d J e u) ≡ 1
-          → source d (column w m d) (place d J e u / d * d + rank m (place d J e u) % d)
+          → source d (decodedStage w m d) (place d J e u / d * d + rank m (place d J e u) % d)
           ≡ place d J e u / (2 * d) * (2 * d) + rank m (place d J e u) % (2 * d)
       at J e u he hu h b =
           let p = place d J e u in
@@ -66,21 +66,21 @@ module _ {w d : ℕ} (f : Fits w d) (m : ℕ) where
           let hJ : J < f .blocks = block-lt d J e u (f .blocks) (rw (f .whole) at h) in
           let near = count-near d m J e u he hu b in
           let turns = turns-near d r (count d m J) e (f .positive) (near .0) (near .1) in
-          let side : (e + bit (column w m d) (J * d + t) + 1) % 2 ≡ r / d % 2 = omega (arith, bit-column J t hJ ht, turns) in
+          let side : (e + bit (decodedStage w m d) (J * d + t) + 1) % 2 ≡ r / d % 2 = omega (arith, bit-decoded-stage J t hJ ht, turns) in
           let whole : p ≡ J * (2 * d) + (e * d + u) = omega arith in
           let block : p / (2 * d) ≡ J = ap (λ (n : ℕ). n / (2 * d)) whole ∙ digits-div J (digits-lt he hu) in
-          ap (λ (n : ℕ). source d (column w m d) (n * d + t)) (half-of d J e u he hu)
-          ∙ source-at d J e t he ht (column w m d)
+          ap (λ (n : ℕ). source d (decodedStage w m d) (n * d + t)) (half-of d J e u he hu)
+          ∙ source-at d J e t he ht (decodedStage w m d)
           ∙ omega (arith, ap (λ (n : ℕ). n * d) side, ap (λ (n : ℕ). n * d) block, mod-mul r {m = 2} {c = d} (omega arith) (f .positive))
 
 module _ (L m p : ℕ) (h : p < 2 ^ L) where
   -- after the last n stages are undone
   origin-marked : bit m p ≡ 1 → (n : ℕ) → n ≤ L
-      → origin (falling n) (map (column (2 ^ L) m) (falling n)) p ≡ p / 2 ^ n * 2 ^ n + rank m p % 2 ^ n
+      → origin (falling n) (map (decodedStage (2 ^ L) m) (falling n)) p ≡ p / 2 ^ n * 2 ^ n + rank m p % 2 ^ n
   unfolding falling origin
   origin-marked b zero l = omega arith
   origin-marked b (suc n) l =
-      ap (source (2 ^ n) (column (2 ^ L) m (2 ^ n))) (origin-marked b n (omega arith))
+      ap (source (2 ^ n) (decodedStage (2 ^ L) m (2 ^ n))) (origin-marked b n (omega arith))
       ∙ source-marked (pow-fits l) m p h b
       ∙ ap (λ (d : ℕ). p / d * d + rank m p % d) (sym (pow-succ' 2 n))
 

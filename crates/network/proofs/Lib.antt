@@ -2,12 +2,12 @@ pub mod Index
 pub mod Turn
 pub mod Travel
 pub mod Decoding
-pub mod Routing
-pub mod Words
+pub mod MaskRouting
+pub mod PairsExchanged
 pub mod Table
-pub mod Steps
-pub mod Calls
-pub mod Columns
+pub mod TableSteps
+pub mod NetworkAnswers
+pub mod StageBlocks
 pub mod Filling
 pub mod CallRouting
 pub mod Six

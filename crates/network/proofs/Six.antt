@@ -16,7 +16,7 @@ use Rattle.network.specs.Calls.{six}
 use Rattle.network.specs.Word.{swapsOf, swapsAt, exchangesOf, allPass, byIndex, travelOf}
 use Rattle.network.proofs.Index.{place, on-places, block-lt, source-at}
 use Rattle.network.proofs.Travel.{Fits, AllFit, bit-stage, stage-lt, stage-wider, travel-lt, falling-fit, rising-fit, length-falling, length-rising, reverse-falling}
-use Rattle.network.proofs.Words.{exchange-stage}
+use Rattle.network.proofs.PairsExchanged.{exchange-stage}
 use Rattle.network.proofs.Filling.{reverse-at}
 
 -- exchanges under the swaps of the controls are the stages
@@ -115,8 +115,8 @@ module _ (L : ℕ) (hL : L ≤ 6) (cs : List ℕ) (hc : length cs ≡ 6) {x : �
       ∙ sym (ap (λ (es : List ℕ). travel (2 ^ L) ds es x) (sym (take-append-drop L cs)) ∙ travel-own (2 ^ L) ds (take L cs) (drop L cs) (used ∙ sym e) x)
 
   -- the butterfly's
-  fall-used : travel 64 (falling 6) (replicate (6 - L) allPass ++ take L cs) x ≡ travel (2 ^ L) (falling L) cs x
-  fall-used =
+  butterfly-in-use : travel 64 (falling 6) (replicate (6 - L) allPass ++ take L cs) x ≡ travel (2 ^ L) (falling L) cs x
+  butterfly-in-use =
       let k = 6 - L in
       let s : k + L ≡ 6 = omega arith in
       let d : drop k (falling 6) ≡ falling L = ap (λ (n : ℕ). drop k (falling n)) (sym s) ∙ drop-falling k L in
@@ -130,8 +130,8 @@ module _ (L : ℕ) (hL : L ≤ 6) (cs : List ℕ) (hc : length cs ≡ 6) {x : �
       ∙ used-only (falling L) (falling-fit L (omega arith)) (length-falling L)
 
   -- the inverse's
-  rise-used : travel 64 (rising 6) (take L cs ++ replicate (6 - L) allPass) x ≡ travel (2 ^ L) (rising L) cs x
-  rise-used =
+  inverse-in-use : travel 64 (rising 6) (take L cs ++ replicate (6 - L) allPass) x ≡ travel (2 ^ L) (rising L) cs x
+  inverse-in-use =
       let s : L + (6 - L) ≡ 6 = omega arith in
       let d : take L (rising 6) ≡ rising L = ap (λ (n : ℕ). take L (rising n)) (sym s) ∙ take-rising L (6 - L) in
       let t : length (take L cs) ≡ length (take L (rising 6)) = used ∙ sym (length-take-le L (rising 6) (omega (arith, length-rising 6))) in
@@ -171,15 +171,15 @@ reverse-same k a =
     ∙ sym (getD-replicate k i a 0 n))
 
 module _ (L : ℕ) (hL : L ≤ 6) (cs : List ℕ) (hc : length cs ≡ 6) {x : ℕ} (hx : x < 2 ^ 2 ^ L) where
-  pub carry-fall : exchangesOf (falling 6) (swapsAt (falling 6) (byIndex false L cs)) x ≡ travelOf false L cs x
+  pub six-butterfly : exchangesOf (falling 6) (swapsAt (falling 6) (byIndex false L cs)) x ≡ travelOf false L cs x
   unfolding travelOf
-  carry-fall =
+  six-butterfly =
       exchanges-travel (falling 6) (byIndex false L cs) (falling-fit 6 {L = 6} (omega arith)) (wide L hL cs hc hx)
-      ∙ fall-used L hL cs hc hx
+      ∙ butterfly-in-use L hL cs hc hx
 
-  pub carry-rise : exchangesOf (rising 6) (reverse (swapsAt (falling 6) (byIndex true L cs))) x ≡ travelOf true L cs x
+  pub six-inverse : exchangesOf (rising 6) (reverse (swapsAt (falling 6) (byIndex true L cs))) x ≡ travelOf true L cs x
   unfolding travelOf
-  carry-rise =
+  six-inverse =
       let ones = replicate (6 - L) allPass in
       let n : length (ones ++ reverse (take L cs)) ≡ length (falling 6) =
       length-append ones (reverse (take L cs))
@@ -191,21 +191,21 @@ module _ (L : ℕ) (hL : L ≤ 6) (cs : List ℕ) (hc : length cs ≡ 6) {x : �
       ap (λ (ss : List ℕ). exchangesOf (rising 6) ss x)
       (swaps-reverse (falling 6) (ones ++ reverse (take L cs)) n ∙ ap₂ swapsAt (reverse-falling 6) back)
       ∙ exchanges-travel (rising 6) (take L cs ++ ones) (rising-fit 6 {L = 6} (omega arith)) (wide L hL cs hc hx)
-      ∙ rise-used L hL cs hc hx
+      ∙ inverse-in-use L hL cs hc hx
 
 -- all six in use
 
 pub six-whole : (cs : List ℕ) → length cs ≡ 6 → six cs ≡ cs
 six-whole cs e = rw e (append-nil cs)
 
-pub fall-whole : (cs : List ℕ) {ws : List ℕ} {x y : ℕ} → x < 2 ^ 64 → ws ≡ swapsAt (falling 6) cs → y ≡ exchangesOf (falling 6) ws x → y ≡ butterflyOf 6 cs x
+pub whole-butterfly : (cs : List ℕ) {ws : List ℕ} {x y : ℕ} → x < 2 ^ 64 → ws ≡ swapsAt (falling 6) cs → y ≡ exchangesOf (falling 6) ws x → y ≡ butterflyOf 6 cs x
 unfolding butterflyOf
-fall-whole cs {ws} {x} h w e =
+whole-butterfly cs {ws} {x} h w e =
     e ∙ ap (λ (ss : List ℕ). exchangesOf (falling 6) ss x) w ∙ exchanges-travel (falling 6) cs (falling-fit 6 {L = 6} (omega arith)) h
 
-pub rise-whole : (cs : List ℕ) → length cs ≡ 6 → {bs ws : List ℕ} {x y : ℕ} → x < 2 ^ 64 → bs ≡ six (reverse (take 6 cs)) → ws ≡ swapsAt (falling 6) bs
+pub whole-inverse : (cs : List ℕ) → length cs ≡ 6 → {bs ws : List ℕ} {x y : ℕ} → x < 2 ^ 64 → bs ≡ six (reverse (take 6 cs)) → ws ≡ swapsAt (falling 6) bs
     → y ≡ exchangesOf (rising 6) (reverse ws) x → y ≡ inverseOf 6 cs x
 unfolding inverseOf travelOf
-rise-whole cs n {bs} {ws} {x} h b w e =
+whole-inverse cs n {bs} {ws} {x} h b w e =
     let l : length (reverse (take 6 cs)) ≡ 6 = length-reverse (take 6 cs) ∙ length-take-le 6 cs (omega arith) in
-    e ∙ ap (λ (ss : List ℕ). exchangesOf (rising 6) (reverse ss) x) (w ∙ ap (swapsAt (falling 6)) (b ∙ six-whole (reverse (take 6 cs)) l)) ∙ carry-rise 6 (omega arith) cs n h
+    e ∙ ap (λ (ss : List ℕ). exchangesOf (rising 6) (reverse ss) x) (w ∙ ap (swapsAt (falling 6)) (b ∙ six-whole (reverse (take 6 cs)) l)) ∙ six-inverse 6 (omega arith) cs n h

@@ -11,7 +11,7 @@ use lib.Seq.{drop-cons, getD-append-add, getD-take, length-take-le}
 use Rattle.network.specs.Stage.{falling, rising}
 use Rattle.network.specs.Word.{swapsOf, swapsAt, exchangeOf, exchangesOf, allPass, byIndex}
 use Rattle.network.proofs.Travel.{length-falling, length-rising}
-use Rattle.network.proofs.Steps.{falling-at, rising-at}
+use Rattle.network.proofs.TableSteps.{falling-at, rising-at}
 use Rattle.network.proofs.Filling.{reverse-at, reversed-at}
 
 -- the swaps of a stage of the table
@@ -46,17 +46,17 @@ unfolding exchangesOf
 exchanges-end ds ss i x h = rw (drop-of-length-le ds h)
 
 module _ (ss : List ℕ) (l : length ss ≡ 6) (i x : ℕ) {y : ℕ} where
-  pub fall-turn : i < 6 → y ≡ exchangeOf (2 ^ (5 - i)) (getD ss i 0) x
+  pub butterfly-turn : i < 6 → y ≡ exchangeOf (2 ^ (5 - i)) (getD ss i 0) x
       → exchangesOf (drop (i + 1) (falling 6)) (drop (i + 1) ss) y ≡ exchangesOf (drop i (falling 6)) (drop i ss) x
-  fall-turn h e =
+  butterfly-turn h e =
       ap (exchangesOf (drop (i + 1) (falling 6)) (drop (i + 1) ss))
       (e ∙ ap (λ (d : ℕ). exchangeOf d (getD ss i 0) x) (sym (falling-at 6 i h)))
       ∙ exchanges-step (falling 6) ss i x (omega (arith, length-falling 6)) (omega arith)
 
   -- from the narrow end: i stages of the table are left
-  pub rise-turn : 0 < i → i ≤ 6 → y ≡ exchangeOf (2 ^ (5 - (i - 1))) (getD ss (i - 1) 0) x
+  pub inverse-turn : 0 < i → i ≤ 6 → y ≡ exchangeOf (2 ^ (5 - (i - 1))) (getD ss (i - 1) 0) x
       → exchangesOf (drop (6 - (i - 1)) (rising 6)) (drop (6 - (i - 1)) (reverse ss)) y ≡ exchangesOf (drop (6 - i) (rising 6)) (drop (6 - i) (reverse ss)) x
-  rise-turn h k e =
+  inverse-turn h k e =
       let n : 6 - (i - 1) ≡ 6 - i + 1 = omega arith in
       let d : 2 ^ (5 - (i - 1)) ≡ getD (rising 6) (6 - i) 0 =
       let q : 5 - (i - 1) ≡ 6 - i = omega arith in ap (λ (j : ℕ). 2 ^ j) q ∙ sym (rising-at 6 (6 - i) (omega arith))

@@ -12,34 +12,34 @@ use Rattle.network.specs.declared.Decoded.{Decoded}
 use Rattle.network.specs.Word.{preparedOf}
 use Rattle.network.specs.Decoder.{decodeOf, decodeInverseOf}
 
--- "a column uses w/2 bits"; "Unused columns and bits are zero": how many bits column i (from 0) uses at width 2 ^ L
+-- "a column uses w/2 bits"; "Unused columns and bits are zero": how many bits stage i (from 0) uses at width 2 ^ L
 abbrev pub usedBits : ℕ → ℕ → ℕ
 usedBits L i = cond (ltb i L) (2 ^ L / 2) 0
 
--- columns number i and up have no one in an unused bit
+-- stages number i and up have no one in an unused bit
 abbrev pub controlsFit : ℕ → ℕ → List ℕ → Bool
 controlsFit L i [] = true
 controlsFit L i (c ∷ cs) = fits (usedBits L i) c && controlsFit L (suc i) cs
 
 -- 'Calls turned back': 1, the width; 2, a one of the word at bit w or above; 3, "a one in an unused setting bit or column"
-abbrev pub carryConditions : ℕ → List ℕ → ℕ → List (ℕ × Bool)
-carryConditions w cs x = (1, not (accepted w)) ∷ (2, not (fits w x)) ∷ (3, not (controlsFit (logOf w) 0 cs)) ∷ []
+abbrev pub networkConditions : ℕ → List ℕ → ℕ → List (ℕ × Bool)
+networkConditions w cs x = (1, not (accepted w)) ∷ (2, not (fits w x)) ∷ (3, not (controlsFit (logOf w) 0 cs)) ∷ []
 
-unfoldable pub carryRefusal : ℕ → List ℕ → ℕ → ℕ
-carryRefusal w cs x = lowest (carryConditions w cs x)
+unfoldable pub networkRefusal : ℕ → List ℕ → ℕ → ℕ
+networkRefusal w cs x = lowest (networkConditions w cs x)
 
 -- the whole answer of a call of the network f (butterflyOf or inverseOf)
-unfoldable pub carryAnswer : (ℕ → List ℕ → ℕ → ℕ) → ℕ → Controls → ℕ → Carried
-carryAnswer f w k x =
-    cond (eqb (carryRefusal w (k .stages) x) 0) (record { refusal = 0; word = f (logOf w) (k .stages) x })
-    (record { refusal = carryRefusal w (k .stages) x; word = 0 })
+unfoldable pub networkAnswer : (ℕ → List ℕ → ℕ → ℕ) → ℕ → Controls → ℕ → Carried
+networkAnswer f w k x =
+    cond (eqb (networkRefusal w (k .stages) x) 0) (record { refusal = 0; word = f (logOf w) (k .stages) x })
+    (record { refusal = networkRefusal w (k .stages) x; word = 0 })
 
 -- the whole answer of a call that makes the inverse (true) or the butterfly ready. Refused is what a call on the word zero is, which is of every width:
 -- 1, the width; 3, the controls
 unfoldable pub prepareAnswer : Bool → ℕ → Controls → Prepared
 prepareAnswer b w k =
-    cond (eqb (carryRefusal w (k .stages) 0) 0) (record { refusal = 0; swaps = preparedOf b (logOf w) (k .stages) })
-    (record { refusal = carryRefusal w (k .stages) 0; swaps = replicate 6 0 })
+    cond (eqb (networkRefusal w (k .stages) 0) 0) (record { refusal = 0; swaps = preparedOf b (logOf w) (k .stages) })
+    (record { refusal = networkRefusal w (k .stages) 0; swaps = replicate 6 0 })
 
 -- 1, the width; 2, a one of the mask at bit w or above
 abbrev pub decodeConditions : ℕ → ℕ → List (ℕ × Bool)

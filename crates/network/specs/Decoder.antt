@@ -19,12 +19,12 @@ unfoldable pub controlAt : ℕ → ℕ → ℕ → ℕ
 controlAt d m s = bit (turned d (rank m (2 * (s / d) * d + d))) (s % d)
 
 -- the control bits of one stage; "a column uses w/2 bits"
-unfoldable pub column : ℕ → ℕ → ℕ → ℕ
-column w m d = ofBits (w / 2) (controlAt d m)
+unfoldable pub decodedStage : ℕ → ℕ → ℕ → ℕ
+decodedStage w m d = ofBits (w / 2) (controlAt d m)
 
 -- the butterfly's controls in the direction of travel
 unfoldable pub decodeOf : ℕ → ℕ → List ℕ
-decodeOf L m = map (column (2 ^ L) m) (falling L)
+decodeOf L m = map (decodedStage (2 ^ L) m) (falling L)
 
 -- "The inverse gets the same columns in reversed order, each column's bits as they are."
 unfoldable pub decodeInverseOf : ℕ → ℕ → List ℕ

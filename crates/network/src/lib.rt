@@ -10,7 +10,7 @@ ghost use Rattle.bits.specs.Refusal.{logOf};
 ghost use Rattle.network.specs.Stage.{falling, rising, butterflyOf, inverseOf};
 ghost use Rattle.network.specs.Word.{spreadOf, swapsOf, swapsAt, exchangeOf, exchangesOf, byIndex, travelOf};
 ghost use Rattle.network.specs.Decoder.{turned, controlAt, decodeOf, decodeInverseOf};
-ghost use Rattle.network.specs.Calls.{usedBits, controlsFit, carryRefusal, carryAnswer, prepareAnswer, six, decodeRefusal, decodeAnswer};
+ghost use Rattle.network.specs.Calls.{usedBits, controlsFit, networkRefusal, networkAnswer, prepareAnswer, six, decodeRefusal, decodeAnswer};
 
 // The control bits of one network: six stages in the direction of travel (paper 01: settings). One passes, zero swaps.
 #[repr(C)]
@@ -53,13 +53,13 @@ const PAIRS: [u64; 6] = [
     0x5555555555555555,
 ];
 
-// internal: a stage of the table. The control bits of a column, each brought to the lower place of its switch: at each stage down the table
+// internal: a stage of the table. The control bits of a stage, each brought to the lower place of its switch: at each stage down the table
 // the two halves of every block move apart.
-fn spread(index: usize, column: u32) -> u64
+fn spread(index: usize, stage: u32) -> u64
     requires { ⌜ index < 6 ⌝ }
-    ensures { λ r. ⌜ r ≡ spreadOf (2 ^ (5 - index)) column ⌝ }
+    ensures { λ r. ⌜ r ≡ spreadOf (2 ^ (5 - index)) stage ⌝ }
 {
-    let mut bits = column as u64;
+    let mut bits = stage as u64;
     let mut at: usize = 0;
     while at < index {
         at += 1;
@@ -69,11 +69,11 @@ fn spread(index: usize, column: u32) -> u64
 }
 
 // internal: a stage of the table. The lower places of the pairs that swap.
-fn swaps(index: usize, column: u32) -> u64
+fn swaps(index: usize, stage: u32) -> u64
     requires { ⌜ index < 6 ⌝ }
-    ensures { λ r. ⌜ r ≡ swapsOf (2 ^ (5 - index)) column ⌝ }
+    ensures { λ r. ⌜ r ≡ swapsOf (2 ^ (5 - index)) stage ⌝ }
 {
-    PAIRS[index] & !spread(index, column)
+    PAIRS[index] & !spread(index, stage)
 }
 
 // internal: a stage of the table. The pairs whose lower places `swaps` marks are exchanged, all at once. (No other place should be marked.)
@@ -103,13 +103,13 @@ fn by_index(rising: bool, log: usize, stages: [u32; 6]) -> [u32; 6]
     requires { ⌜ log ≤ 6 ⌝ }
     ensures { λ r. ⌜ r ≡ byIndex rising log stages ⌝ }
 {
-    let mut columns = [0u32; 6];
+    let mut placed = [0u32; 6];
     let mut index: usize = 0;
     while index < 6 {
-        columns[index] = stage_in_table(rising, log, stages, index);
+        placed[index] = stage_in_table(rising, log, stages, index);
         index += 1;
     }
-    columns
+    placed
 }
 
 // internal: a stage in use. Its number in the direction of travel.
@@ -123,21 +123,21 @@ fn stage_at(rising: bool, log: usize, index: usize) -> usize
     index - (6 - log)
 }
 
-// internal: the swaps of six columns by their index in the table. They serve any number of words.
-pub fn prepare(columns: [u32; 6]) -> [u64; 6]
-    ensures { λ r. ⌜ r ≡ swapsAt (falling 6) columns ⌝ }
+// internal: the swaps of six stages by their index in the table. They serve any number of words.
+pub fn prepare(stages: [u32; 6]) -> [u64; 6]
+    ensures { λ r. ⌜ r ≡ swapsAt (falling 6) stages ⌝ }
 {
     let mut words = [0u64; 6];
     let mut index: usize = 0;
     while index < 6 {
-        words[index] = swaps(index, columns[index]);
+        words[index] = swaps(index, stages[index]);
         index += 1;
     }
     words
 }
 
 // The word through six stages, the widest first: the pairs whose lower places each word marks are exchanged.
-pub fn fall(words: [u64; 6], word: u64) -> u64
+pub fn butterfly_prepared(words: [u64; 6], word: u64) -> u64
     ensures { λ r. ⌜ r ≡ exchangesOf (falling 6) words word ⌝ }
 {
     let mut carried = word;
@@ -150,7 +150,7 @@ pub fn fall(words: [u64; 6], word: u64) -> u64
 }
 
 // The word through the same six stages, the narrowest first.
-pub fn rise(words: [u64; 6], word: u64) -> u64
+pub fn inverse_prepared(words: [u64; 6], word: u64) -> u64
     ensures { λ r. ⌜ r ≡ exchangesOf (rising 6) (reverse words) word ⌝ }
 {
     let mut carried = word;
@@ -163,15 +163,15 @@ pub fn rise(words: [u64; 6], word: u64) -> u64
 }
 
 // internal: a logarithm of at most 6, and a word of that width. Through the inverse (rising) or the butterfly.
-fn carry(rising: bool, log: usize, stages: [u32; 6], word: u64) -> u64
+fn send(rising: bool, log: usize, stages: [u32; 6], word: u64) -> u64
     requires { ⌜ (log ≤ 6) × (word < 2 ^ (2 ^ log)) ⌝ }
     ensures { λ r. ⌜ r ≡ travelOf rising log stages word ⌝ }
 {
     let words = prepare(by_index(rising, log, stages));
     if rising {
-        return rise(words, word);
+        return inverse_prepared(words, word);
     }
-    fall(words, word)
+    butterfly_prepared(words, word)
 }
 
 // internal: a logarithm of at most 6. How many control bits stage `at` uses.
@@ -201,8 +201,8 @@ fn is_used_only(log: usize, stages: [u32; 6]) -> bool
 }
 
 // The lowest refusal of a call on a network; 0 if it is carried out.
-fn carry_refusal(width: u32, stages: [u32; 6], word: u64) -> u8
-    ensures { λ r. ⌜ r ≡ carryRefusal width stages word ⌝ }
+fn network_refusal(width: u32, stages: [u32; 6], word: u64) -> u8
+    ensures { λ r. ⌜ r ≡ networkRefusal width stages word ⌝ }
 {
     let log = bits::log_of(width) as usize;
     if log == 0 {
@@ -219,27 +219,27 @@ fn carry_refusal(width: u32, stages: [u32; 6], word: u64) -> u8
 
 // internal: the refusal of a call on the inverse (rising) or on the butterfly. Its word, 0 if it is refused.
 fn through(rising: bool, refused: u8, width: u32, stages: [u32; 6], word: u64) -> u64
-    requires { ⌜ refused ≡ carryRefusal width stages word ⌝ }
+    requires { ⌜ refused ≡ networkRefusal width stages word ⌝ }
     ensures { λ r. ⌜ r ≡ cond (eqb refused 0) (travelOf rising (logOf width) stages word) 0 ⌝ }
 {
     if refused != 0 {
         return 0;
     }
-    carry(rising, bits::log_of(width) as usize, stages, word)
+    send(rising, bits::log_of(width) as usize, stages, word)
 }
 
 // internal: the word through the butterfly at width 64, where every control bit is used and every word fits
 pub fn butterfly_64(stages: [u32; 6], word: u64) -> u64
     ensures { λ r. ⌜ r ≡ butterflyOf 6 stages word ⌝ }
 {
-    fall(prepare(stages), word)
+    butterfly_prepared(prepare(stages), word)
 }
 
 // internal: the word through the inverse at width 64
 pub fn inverse_64(stages: [u32; 6], word: u64) -> u64
     ensures { λ r. ⌜ r ≡ inverseOf 6 stages word ⌝ }
 {
-    rise(prepare(reversed(6, stages)), word)
+    inverse_prepared(prepare(reversed(6, stages)), word)
 }
 
 // The answer of a call on a network.
@@ -251,25 +251,25 @@ fn answer(refusal: u8, word: u64) -> Carried
 
 // The word through the butterfly: distances w/2, .., 2, 1.
 pub fn butterfly(width: u32, controls: Controls, word: u64) -> Carried
-    ensures { λ r. ⌜ r ≡ carryAnswer butterflyOf width controls word ⌝ }
+    ensures { λ r. ⌜ r ≡ networkAnswer butterflyOf width controls word ⌝ }
 {
     let stages = controls.stages;
     if width == 64 {
         return answer(0, butterfly_64(stages, word));
     }
-    let refusal = carry_refusal(width, stages, word);
+    let refusal = network_refusal(width, stages, word);
     answer(refusal, through(false, refusal, width, stages, word))
 }
 
 // The word through the inverse butterfly: distances 1, 2, .., w/2.
 pub fn inverse(width: u32, controls: Controls, word: u64) -> Carried
-    ensures { λ r. ⌜ r ≡ carryAnswer inverseOf width controls word ⌝ }
+    ensures { λ r. ⌜ r ≡ networkAnswer inverseOf width controls word ⌝ }
 {
     let stages = controls.stages;
     if width == 64 {
         return answer(0, inverse_64(stages, word));
     }
-    let refusal = carry_refusal(width, stages, word);
+    let refusal = network_refusal(width, stages, word);
     answer(refusal, through(true, refusal, width, stages, word))
 }
 
@@ -278,7 +278,7 @@ fn ready(rising: bool, width: u32, controls: Controls) -> Prepared
     ensures { λ r. ⌜ r ≡ prepareAnswer rising width controls ⌝ }
 {
     let stages = controls.stages;
-    let refused = carry_refusal(width, stages, 0);
+    let refused = network_refusal(width, stages, 0);
     if refused != 0 {
         return Prepared {
             refusal: refused,
@@ -289,14 +289,14 @@ fn ready(rising: bool, width: u32, controls: Controls) -> Prepared
     Prepared { refusal: 0, swaps }
 }
 
-// The butterfly made ready: `fall` then sends any number of words through it.
+// The butterfly made ready: `butterfly_prepared` then sends any number of words through it.
 pub fn prepare_butterfly(width: u32, controls: Controls) -> Prepared
     ensures { λ r. ⌜ r ≡ prepareAnswer false width controls ⌝ }
 {
     ready(false, width, controls)
 }
 
-// The inverse made ready: `rise` then sends any number of words through it.
+// The inverse made ready: `inverse_prepared` then sends any number of words through it.
 pub fn prepare_inverse(width: u32, controls: Controls) -> Prepared
     ensures { λ r. ⌜ r ≡ prepareAnswer true width controls ⌝ }
 {

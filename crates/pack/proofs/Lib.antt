@@ -1,7 +1,7 @@
-pub mod Lists
+pub mod FilledLists
 pub mod Stream
 pub mod Reading
-pub mod Routing
-pub mod Calls
+pub mod PreparedMask
+pub mod FieldAnswers
 pub mod Turns
 pub mod Theorems

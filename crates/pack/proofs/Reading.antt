@@ -10,7 +10,7 @@ use Rattle.bits.specs.Bit.{bit, rank, ofBits}
 use Rattle.bits.proofs.Word.{bit-mod, bit-mod-two, bit-cases, bit-ofBits, ofBits-lt, ext}
 use Rattle.bits.proofs.Rank.{rank-lt}
 use Rattle.gather.specs.Gather.{scatterOf}
-use Rattle.gather.proofs.Steps.{scatter-lt}
+use Rattle.gather.proofs.AnyWidth.{scatter-lt}
 use Rattle.gather.proofs.Theorems.{bit-scatter}
 use Rattle.pack.specs.declared.Cursor.{Cursor}
 use Rattle.pack.specs.Fields.{sizeOf, packedBit, fieldAt, scatteredAt}

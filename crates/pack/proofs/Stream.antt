@@ -12,7 +12,7 @@ use Rattle.bits.proofs.Word.{ofBits-lt, ofBits-add}
 use Rattle.pack.specs.declared.Cursor.{Cursor}
 use Rattle.pack.specs.Fields.{wordAt}
 use Rattle.pack.specs.Cursor.{Holds}
-use Rattle.pack.proofs.Lists.{length-filled, fill-next}
+use Rattle.pack.proofs.FilledLists.{length-filled, fill-next}
 
 -- words end to end
 

@@ -15,19 +15,19 @@ use Rattle.gather.specs.Gather.{gatherOf, scatterOf}
 use Rattle.gather.proofs.Theorems.{scatter-gather}
 use Rattle.network.proofs.Filling.{map-at}
 use Rattle.pack.specs.Fields.{upTo, sizeOf, needed, cut, fieldsOf, streamBit, wordAt, packInto, packedBit, fieldAt, scatteredAt, unpackInto}
-use Rattle.pack.specs.Calls.{conditionsOf, refusalOf, answerOf, leftOf, packAnswer, packedOut, unpackAnswer, unpackedOut}
-use Rattle.pack.proofs.Lists.{length-upTo, getD-upTo, upTo-same, length-filled}
+use Rattle.pack.specs.Calls.{fieldsConditions, fieldsRefusal, fieldsAnswer, leftOf, packAnswer, packedOut, unpackAnswer, unpackedOut}
+use Rattle.pack.proofs.FilledLists.{length-upTo, getD-upTo, upTo-same, length-filled}
 use Rattle.pack.proofs.Stream.{ofBits-same}
 use Rattle.pack.proofs.Reading.{bit-packed}
 use Rattle.pack.proofs.Turns.{stream-word, stream-end, next-field}
-use Rattle.pack.proofs.Calls.{Within, carried-out, within, by-none, answer-done, answer-refusal, answer-lowest, answer-bits, length-cut, cut-room}
+use Rattle.pack.proofs.FieldAnswers.{Within, carried-out, within, by-none, answer-done, answer-refusal, answer-lowest, answer-bits, length-cut, cut-room}
 
 -- Demand 1, of each call: the answer's first number is the lowest that applies. Bits answered: as many as the mask marks, for each word from a up to b.
 module _ (m : ℕ) (first : List ℕ) (a b : ℕ) (out : List ℕ) where
-  pub pack-refusal-lowest : IsLowest (conditionsOf (sizeOf m) a b (length first) (length out)) (packAnswer m first a b out .refusal)
+  pub pack-refusal-lowest : IsLowest (fieldsConditions (sizeOf m) a b (length first) (length out)) (packAnswer m first a b out .refusal)
   pack-refusal-lowest = answer-lowest (sizeOf m) a b (length first) (length out)
 
-  pub unpack-refusal-lowest : IsLowest (conditionsOf (sizeOf m) a b (length out) (length first)) (unpackAnswer m first a b out .refusal)
+  pub unpack-refusal-lowest : IsLowest (fieldsConditions (sizeOf m) a b (length out) (length first)) (unpackAnswer m first a b out .refusal)
   unpack-refusal-lowest = answer-lowest (sizeOf m) a b (length out) (length first)
 
   pub pack-bits : packAnswer m first a b out .refusal ≡ 0 → packAnswer m first a b out .bits ≡ sizeOf m * (b - a)
@@ -136,7 +136,7 @@ unpack-pack m hm a b ws h l out ys =
 
 -- The same of the calls, with the answers: if pack is carried out, unpack of what it left, into words that b and the limit allow, is carried out too.
 module _ (m : ℕ) (hm : m < 2 ^ 64) (ws out : List ℕ) (a b : ℕ) (h : packAnswer m ws a b out .refusal ≡ 0) where
-  ok : refusalOf (sizeOf m) a b (length ws) (length out) ≡ 0
+  ok : fieldsRefusal (sizeOf m) a b (length ws) (length out) ≡ 0
   ok = sym (answer-refusal (sizeOf m) a b (length ws) (length out)) ∙ h
 
   limits-of : Within (sizeOf m) a b (length ws) (length out)
@@ -161,7 +161,7 @@ module _ (m : ℕ) (hm : m < 2 ^ 64) (ws out : List ℕ) (a b : ℕ) (h : packAn
   calls-unpack-pack ys l u =
       let w = limits-of in
       let ps = packedOut m ws a b out in
-      let z : refusalOf (sizeOf m) a b (length ys) (length ps) ≡ 0 =
+      let z : fieldsRefusal (sizeOf m) a b (length ys) (length ps) ≡ 0 =
       sym (by-none (sizeOf m) a b (length ys) (length ps)
       (record { order = w .order; end = l; own-limit = u; other-limit = omega (arith, length-packed, w .other-limit); room = omega (arith, length-packed, w .room) }))
       in
@@ -175,5 +175,5 @@ module _ (m : ℕ) (hm : m < 2 ^ 64) (ws out : List ℕ) (a b : ℕ) (h : packAn
 -- Row 11: pack, mask 0xFFF, words 1, 2, 3, 4, 5, 0x9A6, a = 0, b = 6: 72 bits; 0x6005004003002001, 0x9A. A third word keeps its value.
 pub row-11 : (packAnswer 0xFFF (1 ∷ 2 ∷ 3 ∷ 4 ∷ 5 ∷ 0x9A6 ∷ []) 0 6 (7 ∷ 7 ∷ 7 ∷ []) ≡ record { refusal = 0; bits = 72 })
     × (packedOut 0xFFF (1 ∷ 2 ∷ 3 ∷ 4 ∷ 5 ∷ 0x9A6 ∷ []) 0 6 (7 ∷ 7 ∷ 7 ∷ []) ≡ 0x6005004003002001 ∷ 0x9A ∷ 7 ∷ [])
-unfolding answerOf leftOf refusalOf rank packInto upTo wordAt streamBit gatherOf pick places ofBits bit
+unfolding fieldsAnswer leftOf fieldsRefusal rank packInto upTo wordAt streamBit gatherOf pick places ofBits bit
 row-11 = (refl, refl)

@@ -15,8 +15,8 @@ use Rattle.network.proofs.Filling.{map-at}
 use Rattle.pack.specs.declared.Cursor.{Cursor}
 use Rattle.pack.specs.declared.Taken.{Taken}
 use Rattle.pack.specs.Fields.{sizeOf, needed, fieldsOf, streamBit, wordAt, packInto, scatteredAt}
-use Rattle.pack.specs.Cursor.{filled, fresh, Holds, Puts, Awaits, Takes}
-use Rattle.pack.proofs.Lists.{length-filled, fill-none, fill-next}
+use Rattle.pack.specs.Cursor.{filled, cursorStart, Holds, Puts, Awaits, Takes}
+use Rattle.pack.proofs.FilledLists.{length-filled, fill-none, fill-next}
 use Rattle.pack.proofs.Reading.{scatter-read}
 
 -- the stream of a list of fields
@@ -53,7 +53,7 @@ module _ (m : ℕ) (ws old : List ℕ) where
   abbrev stream : ℕ → ℕ
   stream = streamOf m ws
 
-  pub pack-starts : {c : Cursor} → c ≡ fresh → Holds stream (sizeOf m * 0) c old old
+  pub pack-starts : {c : Cursor} → c ≡ cursorStart → Holds stream (sizeOf m * 0) c old old
   unfolding ofBits
   pack-starts e = rw e record { at = omega arith; within = omega arith; bits = refl; words = fill-none (wordAt stream) old }
 
@@ -128,7 +128,7 @@ module _ (m : ℕ) (ws old : List ℕ) where
 -- Unpacking.
 
 module _ (m : ℕ) (ps : List ℕ) where
-  pub unpack-starts : {c : Cursor} → c ≡ fresh → Awaits ps (sizeOf m * 0) c
+  pub unpack-starts : {c : Cursor} → c ≡ cursorStart → Awaits ps (sizeOf m * 0) c
   unfolding ofBits
   unpack-starts e = rw e record { at = omega arith; within = omega arith; bits = refl }
 

@@ -16,8 +16,8 @@ unfoldable pub routesOf : ℕ → List ℕ
 routesOf m = swapsAt (falling 6) (decodeOf 6 m)
 
 -- nothing written or read
-abbrev pub fresh : Cursor
-fresh = record { word = 0; held = 0; pending = 0 }
+abbrev pub cursorStart : Cursor
+cursorStart = record { word = 0; held = 0; pending = 0 }
 
 -- a list whose first j words are f 0, .., f (j - 1), the others as in `old`
 abbrev pub filled : ℕ → (ℕ → ℕ) → List ℕ → List ℕ

@@ -4,8 +4,8 @@ ghost use Prim.Native.Nat.{_+_, _-_, _*_, _≤_, _<_};
 ghost use lib.ListN.{length};
 ghost use Rattle.gather.specs.Gather.{gatherOf, scatterOf};
 ghost use Rattle.pack.specs.Fields.{sizeOf, needed, packInto, scatteredAt, upTo};
-ghost use Rattle.pack.specs.Cursor.{routesOf, fresh, Puts, Takes};
-ghost use Rattle.pack.specs.Calls.{refusalOf, answerOf, packAnswer, packedOut, unpackAnswer, unpackedOut};
+ghost use Rattle.pack.specs.Cursor.{routesOf, cursorStart, Puts, Takes};
+ghost use Rattle.pack.specs.Calls.{fieldsRefusal, fieldsAnswer, packAnswer, packedOut, unpackAnswer, unpackedOut};
 
 // What a call answers: 0 and the count of bits, or the number of the refusal and a zero.
 #[repr(C)]
@@ -34,7 +34,7 @@ struct Taken {
 impl Cursor {
     // internal: before the first field
     fn start() -> Cursor
-        ensures { λ r. ⌜ r ≡ fresh ⌝ }
+        ensures { λ r. ⌜ r ≡ cursorStart ⌝ }
     {
         Cursor {
             word: 0,
@@ -109,7 +109,7 @@ fn gathered(routes: [u64; 6], mask: u64, word: u64) -> u64
     requires { ⌜ routes ≡ routesOf mask ⌝ }
     ensures { λ r. ⌜ r ≡ gatherOf 64 mask word ⌝ }
 {
-    network::rise(routes, word & mask)
+    network::inverse_prepared(routes, word & mask)
 }
 
 // internal: the routes of the mask. Scatter through the butterfly.
@@ -117,7 +117,7 @@ fn scattered(routes: [u64; 6], mask: u64, word: u64) -> u64
     requires { ⌜ routes ≡ routesOf mask ⌝ }
     ensures { λ r. ⌜ r ≡ scatterOf 64 mask word ⌝ }
 {
-    network::fall(routes, word) & mask
+    network::butterfly_prepared(routes, word) & mask
 }
 
 // internal: room for the fields. The field of each word, one after the other, and zeros up to the end of the last word begun.
@@ -160,7 +160,7 @@ fn read_fields(mask: u64, packed: &[u64], out: &mut [u64])
 // internal: fields of at most 64 bits. The lowest refusal of a call, where a and b cut the one of two slices that is `own` long; 0 if it is carried out.
 fn refusal(size: u64, a: usize, b: usize, own: usize, other: usize) -> u8
     requires { ⌜ size ≤ 64 ⌝ }
-    ensures { λ r. ⌜ r ≡ refusalOf size a b own other ⌝ }
+    ensures { λ r. ⌜ r ≡ fieldsRefusal size a b own other ⌝ }
 {
     if b < a {
         return bits::RANGE;
@@ -184,7 +184,7 @@ fn refusal(size: u64, a: usize, b: usize, own: usize, other: usize) -> u8
 // internal: fields of at most 64 bits. The whole answer of a call.
 fn answer(size: u64, a: usize, b: usize, own: usize, other: usize) -> Packed
     requires { ⌜ size ≤ 64 ⌝ }
-    ensures { λ r. ⌜ r ≡ answerOf size a b own other ⌝ }
+    ensures { λ r. ⌜ r ≡ fieldsAnswer size a b own other ⌝ }
 {
     let refused = refusal(size, a, b, own, other);
     if refused != 0 {

@@ -11,11 +11,11 @@ use Rattle.bits.specs.Bit.{pick}
 use Rattle.bits.specs.Refusal.{logOf, accepted}
 use Rattle.bits.proofs.Refusals.{log-width}
 use Rattle.gather.specs.Gather.{refusalOf}
-use Rattle.gather.proofs.Calls.{refusal-by}
+use Rattle.gather.proofs.MaskAnswers.{refusal-by}
 use Rattle.network.specs.Stage.{butterflyOf, inverseOf}
-use Rattle.network.specs.Calls.{controls, carryAnswer}
+use Rattle.network.specs.Calls.{controls, networkAnswer}
 use Rattle.network.specs.declared.Carried.{Carried}
-use Rattle.network.proofs.Routing.{mask-routing-scatter, mask-routing-gather, butterfly-lt}
+use Rattle.network.proofs.MaskRouting.{mask-routing-scatter, mask-routing-gather, butterfly-lt}
 use Rattle.network.proofs.CallRouting.{calls-route-scatter, calls-route-gather, on-stages, butterfly-own, inverse-own}
 use Rattle.routing.specs.Lists.{Words, firstWords}
 use Rattle.permute.specs.declared.Routed.{Routed}
@@ -25,7 +25,7 @@ use Rattle.permute.specs.Calls.{routeAnswer, stagesIn}
 use Rattle.permute.specs.Demand3.{Demand3, Demand3Calls}
 use Rattle.permute.proofs.Order.{first-controls}
 use Rattle.permute.proofs.Names.{names-permutes}
-use Rattle.permute.proofs.Calls.{route-refusal-by}
+use Rattle.permute.proofs.PermutationAnswers.{route-refusal-by}
 
 pub demand-3 : (L : ℕ) → Demand3 L
 demand-3 L =
@@ -64,15 +64,15 @@ module _ (w : ℕ) (a : accepted w ≡ true) where
         }
 
     permuted : (x : ℕ) → x < 2 ^ w
-        → carryAnswer inverseOf w (routeAnswer w es .inverse) (carryAnswer butterflyOf w (routeAnswer w es .butterfly) x .word)
+        → networkAnswer inverseOf w (routeAnswer w es .inverse) (networkAnswer butterflyOf w (routeAnswer w es .butterfly) x .word)
         ≡ record { refusal = 0; word = pick es x }
     permuted x h =
         let L = logOf w in
         let s : 2 ^ w ≡ 2 ^ 2 ^ L = ap (λ (v : ℕ). 2 ^ v) width in
         let y = butterflyOf L (k .butterfly) x in
         let hy : y < 2 ^ w = omega (arith, butterfly-lt L (k .butterfly) {x = x} (omega (arith, s)), s) in
-        ap (λ (r : Routed). carryAnswer inverseOf w (r .inverse) (carryAnswer butterflyOf w (r .butterfly) x .word)) answered
-        ∙ ap (λ (c : Carried). carryAnswer inverseOf w (controls (k .inverse)) (c .word))
+        ap (λ (r : Routed). networkAnswer inverseOf w (r .inverse) (networkAnswer butterflyOf w (r .butterfly) x .word)) answered
+        ∙ ap (λ (c : Carried). networkAnswer inverseOf w (controls (k .inverse)) (c .word))
         (on-stages butterflyOf butterfly-own w (k .butterfly) x a h (first .controls .0))
         ∙ on-stages inverseOf inverse-own w (k .inverse) y a hy (first .controls .1)
         ∙ ap (λ (z : ℕ). record { refusal = 0; word = z }) (first .realises x (omega (arith, s)))

@@ -14,9 +14,9 @@ use Rattle.routing.specs.Loop.{pass, swap}
 use Rattle.routing.specs.Stages.{Butterfly, Inverse}
 use Rattle.routing.specs.Stages as place
 use Rattle.routing.specs.Lists.{Words, wordOf, controlIn, butterflyWords, inverseWords, butterflyFrom, inverseFrom, wordsOf, fromWords}
-use Rattle.routing.proofs.Words.{word-small, word-bit, butterfly-word, inverse-word}
+use Rattle.routing.proofs.StageWords.{word-small, word-bit, butterfly-word, inverse-word}
 use Rattle.permute.specs.Permutation.{Uses}
-use Rattle.permute.specs.First.{travelled, Controls}
+use Rattle.permute.specs.First.{travelled, UsesBoth}
 
 -- the words of a set of controls
 
@@ -53,7 +53,7 @@ inverse-used L c = (
   λ i l. rw (inverse-word (2 ^ L / 2) 0 L c i i (omega arith) l) (word-small (2 ^ L / 2) (c i)),
 )
 
-pub words-used : (L : ℕ) (C : place.Controls) → Controls L (wordsOf L C)
+pub words-used : (L : ℕ) (C : place.StageControls) → UsesBoth L (wordsOf L C)
 unfolding wordsOf
 words-used L C = (butterfly-used L (λ e. C (Butterfly e)), inverse-used L (λ e. C (Inverse e)))
 
@@ -126,6 +126,6 @@ module _ (L : ℕ) (cs : List ℕ) (u : Uses L cs) where
           let l : i < L = omega (arith, length-inverse (2 ^ L / 2) 0 L (inverseFrom cs)) in
           inverse-word (2 ^ L / 2) 0 L (inverseFrom cs) i i (omega arith) l ∙ word-back (2 ^ L / 2) (u .1 i l)
 
-pub words-back : (L : ℕ) (k : Words) → Controls L k → wordsOf L (fromWords L k) ≡ k
+pub words-back : (L : ℕ) (k : Words) → UsesBoth L k → wordsOf L (fromWords L k) ≡ k
 unfolding wordsOf
 words-back L k u = λ i. record { butterfly = butterfly-back L (k .butterfly) (u .0) i; inverse = inverse-back L (k .inverse) (u .1) i }

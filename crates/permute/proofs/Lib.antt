@@ -4,6 +4,6 @@ pub mod FirstWords
 pub mod Order
 pub mod OneNetwork
 pub mod Names
-pub mod Calls
+pub mod PermutationAnswers
 pub mod Demand3
-pub mod Answers
+pub mod FirstAnswers

@@ -15,7 +15,7 @@ use lib.Seq.{drop-cons, drop-length}
 use borrow.Author.Tests.{ltb-true, lt-ltb, le-ltb, eq-eqb, ne-eqb}
 use Rattle.bits.specs.Bit.{bit}
 use Rattle.bits.proofs.Word.{bit-cases, bit-lt, bit-or, bit-of-zero}
-use Rattle.network.proofs.Columns.{shl-one}
+use Rattle.network.proofs.StageBlocks.{shl-one}
 use Rattle.routing.specs.Lists.{ListPermutes}
 use Rattle.permute.specs.Permutation.{absent, namesOnce}
 use Rattle.permute.proofs.Realised.{bit-pow, bit-pow-only}

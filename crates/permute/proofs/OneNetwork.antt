@@ -9,7 +9,7 @@ use lib.Seq.{take-length}
 use Rattle.bits.specs.Bit.{bit}
 use Rattle.network.specs.Stage.{falling, rising, butterflyOf, inverseOf}
 use Rattle.network.proofs.Travel.{origin, bit-travel, falling-fit, rising-fit}
-use Rattle.network.proofs.Routing.{butterfly-lt, inverse-lt}
+use Rattle.network.proofs.MaskRouting.{butterfly-lt, inverse-lt}
 use Rattle.routing.specs.Stages as place
 use Rattle.routing.specs.Alone.{butterflyControls, inverseControls}
 use Rattle.routing.specs.Lists.{ListPermutes, entry, find, butterflyFrom, inverseFrom, butterflyFits, inverseFits, butterflyAlone, inverseAlone}

@@ -9,8 +9,8 @@ use lib.ListN.{length, getD}
 use Rattle.routing.specs.Stages.{Stage, Butterfly, Inverse, exponent, Agree}
 use Rattle.routing.specs.Stages as place
 use Rattle.routing.specs.Lists.{Words, ListPermutes, controlIn, butterflyFrom, inverseFrom, fromWords, controlsOf, firstWords}
-use Rattle.routing.proofs.Words.{words-cong, first-words}
-use Rattle.permute.specs.First.{travelled, control, Controls, Before, Later, First}
+use Rattle.routing.proofs.StageWords.{words-cong, first-words}
+use Rattle.permute.specs.First.{travelled, control, UsesBoth, Before, Later, First}
 use Rattle.permute.proofs.Realised.{brings-realises, realises-brings}
 use Rattle.permute.proofs.FirstWords.{travelled-butterfly, travelled-inverse, zero-control, one-control, same-control, words-used, words-back}
 
@@ -58,8 +58,8 @@ switch-lt : (L s : ℕ) {e : ℕ} → e < L → s + s < 2 ^ L → s < 2 ^ L / 2
 switch-lt zero s h l = absurd (omega arith)
 switch-lt (suc L) s h l = omega arith
 
-module _ (L : ℕ) (k l : Words) (u : Controls L k) (v : Controls L l) where
-  pub later : place.Later L (fromWords L k) (fromWords L l) → Later L k l
+module _ (L : ℕ) (k l : Words) (u : UsesBoth L k) (v : UsesBoth L l) where
+  pub later : place.ComesLater L (fromWords L k) (fromWords L l) → Later L k l
   later r =
       let c = r .at-stage in
       let h = r .inside .at-stage in
@@ -73,7 +73,7 @@ module _ (L : ℕ) (k l : Words) (u : Controls L k) (v : Controls L l) where
         swaps = zero-control (getD (travelled l) (number L c) 0) (r .switch) (sym (control-at L l (v .0 .0) c (r .switch) h) ∙ r .swaps);
       }
     where
-      before : (i s : ℕ) (d : At L i) → Before i s (number L (r .at-stage)) (r .switch) → place.Before (d .stage) s (r .at-stage) (r .switch)
+      before : (i s : ℕ) (d : At L i) → Before i s (number L (r .at-stage)) (r .switch) → place.SwitchBefore (d .stage) s (r .at-stage) (r .switch)
       before i s d (inl q) = inl (earlier L (d .stage) (r .at-stage) (d .inside) (r .inside .at-stage) (omega (arith, d .is)))
       before i s d (inr q) = inr (number-one L (d .stage) (r .at-stage) (d .inside) (r .inside .at-stage) (d .is ∙ q .0), q .1)
 
@@ -97,11 +97,11 @@ first-controls L entries p =
       others = λ l v r. by l v (f .others (fromWords L l) (realises-brings L l (v .0 .0) (v .1 .0) entries (p .long) (p .small) r));
     }
   where
-    u : Controls L (firstWords L entries)
+    u : UsesBoth L (firstWords L entries)
     u = words-used L (controlsOf L entries)
 
-    by : (l : Words) → Controls L l
-        → Agree L (fromWords L (firstWords L entries)) (fromWords L l) ⊎ place.Later L (fromWords L (firstWords L entries)) (fromWords L l)
+    by : (l : Words) → UsesBoth L l
+        → Agree L (fromWords L (firstWords L entries)) (fromWords L l) ⊎ place.ComesLater L (fromWords L (firstWords L entries)) (fromWords L l)
         → (l ≡ firstWords L entries) ⊎ Later L (firstWords L entries) l
     by l v (inl a) =
         inl (sym (words-back L l v) ∙ sym (words-cong L (fromWords L (firstWords L entries)) (fromWords L l) a) ∙ words-back L (firstWords L entries) u)

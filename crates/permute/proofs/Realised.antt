@@ -11,7 +11,7 @@ use Rattle.bits.proofs.Word.{bit-shl-low, bit-shl-high, bit-above, bit-zero, ex
 use Rattle.bits.proofs.Places.{bit-pick, pick-lt}
 use Rattle.network.specs.Stage.{falling, rising, butterflyOf, inverseOf}
 use Rattle.network.proofs.Travel.{origin, origin-below, bit-travel, falling-fit, rising-fit}
-use Rattle.network.proofs.Routing.{butterfly-lt, inverse-lt}
+use Rattle.network.proofs.MaskRouting.{butterfly-lt, inverse-lt}
 use Rattle.routing.specs.Stages.{network}
 use Rattle.routing.specs.FirstControls.{Brings}
 use Rattle.routing.specs.Lists.{Words, entry, fromWords}

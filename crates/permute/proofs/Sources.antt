@@ -20,13 +20,13 @@ use Rattle.routing.specs.Lists.{Words, controlIn, butterflyFrom, inverseFrom, f
 
 -- one stage
 
-switch-same : (e p : ℕ) → place.switchOf e p ≡ word.switchOf (2 ^ e) p
-unfolding place.switchOf word.switchOf
+switch-same : (e p : ℕ) → place.switchAt e p ≡ word.switchOf (2 ^ e) p
+unfolding place.switchAt word.switchOf
 switch-same e p =
     ap (λ (n : ℕ). n * 2 ^ e + p % 2 ^ e) (ap (λ (n : ℕ). p / n) (pow-suc 2 e) ∙ sym (div-div-eq-div-mul p (2 ^ e) 2))
 
 pub through-source : (e c p : ℕ) → through e (controlIn c) p ≡ word.source (2 ^ e) c p
-unfolding through word.source place.partner word.partner controlIn bit
+unfolding through word.source place.partnerAt word.partner controlIn bit
 through-source e c p =
     ap (λ (s : ℕ). cond (eqb (bit c s) 0) (word.partner (2 ^ e) p) p) (switch-same e p) ∙ by-cases (bit-cases c (word.switchOf (2 ^ e) p))
   where

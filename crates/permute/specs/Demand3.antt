@@ -10,7 +10,7 @@ use Rattle.bits.specs.Refusal.{logOf}
 use Rattle.gather.specs.Gather.{gatherOf, scatterOf, answerOf}
 use Rattle.network.specs.Stage.{butterflyOf, inverseOf}
 use Rattle.network.specs.Decoder.{decodeOf, decodeInverseOf}
-use Rattle.network.specs.Calls.{carryAnswer, decodeAnswer}
+use Rattle.network.specs.Calls.{networkAnswer, decodeAnswer}
 use Rattle.routing.specs.Lists.{ListPermutes, firstWords}
 use Rattle.permute.specs.Permutation.{namesOnce}
 use Rattle.permute.specs.First.{First}
@@ -31,12 +31,12 @@ pub record Demand3 (L : ℕ) : Type 0 where
 -- the same of the calls' answers, at every accepted width w
 pub record Demand3Calls (w : ℕ) : Type 0 where
   pub scatters : (mask word : ℕ) → mask < 2 ^ w → word < 2 ^ w
-      → bitAnd (carryAnswer butterflyOf w (decodeAnswer w mask .butterfly) word .word) mask ≡ answerOf scatterOf w mask word .word
+      → bitAnd (networkAnswer butterflyOf w (decodeAnswer w mask .butterfly) word .word) mask ≡ answerOf scatterOf w mask word .word
   pub gathers : (mask word : ℕ) → mask < 2 ^ w → word < 2 ^ w
-      → carryAnswer inverseOf w (decodeAnswer w mask .inverse) (bitAnd word mask) .word ≡ answerOf gatherOf w mask word .word
+      → networkAnswer inverseOf w (decodeAnswer w mask .inverse) (bitAnd word mask) .word ≡ answerOf gatherOf w mask word .word
   pub routes : (entries : List ℕ) → length entries ≡ w → namesOnce w entries ≡ true
       → First (logOf w) (stagesIn (logOf w) (routeAnswer w entries)) entries
   -- and so the calls on both networks permute every word
   pub permutes : (entries : List ℕ) → length entries ≡ w → namesOnce w entries ≡ true → (word : ℕ) → word < 2 ^ w
-      → carryAnswer inverseOf w (routeAnswer w entries .inverse) (carryAnswer butterflyOf w (routeAnswer w entries .butterfly) word .word)
+      → networkAnswer inverseOf w (routeAnswer w entries .inverse) (networkAnswer butterflyOf w (routeAnswer w entries .butterfly) word .word)
       ≡ record { refusal = 0; word = pick entries word }

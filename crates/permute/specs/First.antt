@@ -17,8 +17,8 @@ abbrev pub control : Words → ℕ → ℕ → ℕ
 control k i s = bit (getD (travelled k) i 0) s
 
 -- controls of both networks
-abbrev pub Controls : ℕ → Words → Type 0
-Controls L k = Uses L (k .butterfly) × Uses L (k .inverse)
+abbrev pub UsesBoth : ℕ → Words → Type 0
+UsesBoth L k = Uses L (k .butterfly) × Uses L (k .inverse)
 
 -- (stage i, switch s) comes before (stage j, switch t)
 abbrev pub Before : ℕ → ℕ → ℕ → ℕ → Type 0
@@ -36,6 +36,6 @@ pub record Later (L : ℕ) (k l : Words) : Type 0 where
 
 -- "it gets settings for butterfly then inverse that bring every line of every word to its place, and any other settings that do so come later"
 pub record First (L : ℕ) (k : Words) (entries : List ℕ) : Type 0 where
-  pub controls : Controls L k
+  pub controls : UsesBoth L k
   pub realises : Realises L k entries
-  pub others : (l : Words) → Controls L l → Realises L l entries → (l ≡ k) ⊎ Later L k l
+  pub others : (l : Words) → UsesBoth L l → Realises L l entries → (l ≡ k) ⊎ Later L k l

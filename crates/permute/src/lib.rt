@@ -6,7 +6,7 @@ ghost use mathlib.Core.List.{[]};
 ghost use Prim.Native.Nat.{_≤_};
 ghost use Rattle.network.specs.Calls.{controls};
 ghost use Rattle.routing.specs.Lists.{butterflyFits, butterflyAlone, inverseFits, inverseAlone};
-ghost use Rattle.alone.specs.Calls.{fits, alone};
+ghost use Rattle.alone.specs.Calls.{fitsAlone, alone};
 ghost use Rattle.permute.specs.Permutation.{namesOnce};
 ghost use Rattle.permute.specs.Calls.{routeRefusal, routeAnswer, AnswersFirst, oneAnswer};
 
@@ -101,7 +101,7 @@ pub fn route_inverse(width: u32, entries: &[u8]) -> RoutedOne
 
 // The controls of the inverse alone (rising) or of the butterfly alone.
 fn route_one(rising: bool, width: u32, entries: &[u8]) -> RoutedOne
-    ensures { λ r. ⌜ r ≡ oneAnswer (fits rising) (alone rising) width (now (entries .entry)) ⌝ }
+    ensures { λ r. ⌜ r ≡ oneAnswer (fitsAlone rising) (alone rising) width (now (entries .entry)) ⌝ }
 {
     let refused = refusal(width, entries);
     if refused != 0 {

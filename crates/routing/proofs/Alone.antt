@@ -8,13 +8,13 @@ use native.Mathlib.Omega.{arith}
 use lib.Dec.{eqb}
 use borrow.Author.Tests.{eqb-true, eq-eqb}
 use Rattle.routing.specs.Place.{Place, num, place, at, tab}
-use Rattle.routing.specs.Loop.{Maps, IsPermutation, pass, side, stage, between}
-use Rattle.routing.specs.Net.{ControlTree, half, butterflySource, inverseSource, Net, Realises, part}
+use Rattle.routing.specs.Loop.{Maps, IsPermutation, pass, side, sent, between}
+use Rattle.routing.specs.Net.{ControlTree, half, butterflySource, inverseSource, Net, NetRealises, part}
 use Rattle.routing.specs.Stages.{Same, butterfly, inverse, flat}
 use Rattle.routing.specs.FirstControls.{Permutes, onPlaces}
 use Rattle.routing.specs.Alone.{ButterflyBrings, InverseBrings, forced, butterflyControls, inverseControls, everyBelow, butterflyTest, inverseTest}
 use Rattle.routing.proofs.Stage.{pair, side-low}
-use Rattle.routing.proofs.Places.{num-lt, place-num, at-tab-all}
+use Rattle.routing.proofs.PlaceNumbers.{num-lt, place-num, at-tab-all}
 use Rattle.routing.proofs.Halves.{Keeps, halfNet, between-permutation, sides-keep, part-permutation, realises-sides, realises-half}
 use Rattle.routing.proofs.Through.{within}
 use Rattle.routing.proofs.Flat.{Reads, butterfly-source, reads-flat, treeOf, reads-tree, reads-same, butterfly-inverse, butterfly-cong, inverse-cong}
@@ -39,7 +39,7 @@ unfolding side
 side-still n p = ap (λ (k : Place n → Bool). side k p) (still-outer n)
 
 inverse-still : (n : ℕ) (p : Place n) → inverseSource n (still n) p ≡ p
-unfolding inverseSource stage
+unfolding inverseSource sent
 inverse-still zero p = refl
 inverse-still (suc n) p =
     let same = side-still n p in
@@ -60,7 +60,7 @@ module _
     (F : ControlTree (suc n))
     (m : Maps (Place (suc n)))
     (perm : IsPermutation m)
-    (real : Realises (suc n) (lone (suc n) F) m)
+    (real : NetRealises (suc n) (lone (suc n) F) m)
   where
     abbrev f : Place n → Bool
     f = at n (F .outer)
@@ -89,10 +89,10 @@ module _
         (subst Keeps rest-is
         (sides-keep m perm f (at n (still (suc n) .outer)) (realises-sides n (lone (suc n) F) m real)))
 
-    rest-half : (h : Bool) → Realises n (lone n (half n F h)) (part n rest h)
+    rest-half : (h : Bool) → NetRealises n (lone n (half n F h)) (part n rest h)
     rest-half h =
-        subst (λ (N : Net n). Realises n N (part n rest h)) (lone-half n F h)
-        (subst (λ (b : Maps (Place (suc n))). Realises n (halfNet n (lone (suc n) F) h) (part n b h)) rest-is
+        subst (λ (N : Net n). NetRealises n N (part n rest h)) (lone-half n F h)
+        (subst (λ (b : Maps (Place (suc n))). NetRealises n (halfNet n (lone (suc n) F) h) (part n b h)) rest-is
         (realises-half n (lone (suc n) F) m real h))
 
 module _ (n : ℕ) (m : Maps (Place (suc n))) where
@@ -119,7 +119,7 @@ reads-forced :
     → IsPermutation m
     → (c : ℕ → ℕ → Bool) (F : ControlTree n)
     → Reads n c F
-    → Realises n (lone n F) m
+    → NetRealises n (lone n F) m
     → Reads n c (forced n m)
 reads-forced zero m perm c F r real = tt
 reads-forced (suc n) m perm c F r real =
@@ -162,7 +162,7 @@ butterfly-forced n π ρ perm c brings =
     G : ControlTree n
     G = forced n (onPlaces n π ρ)
 
-    real : Realises n (lone n F) (onPlaces n π ρ)
+    real : NetRealises n (lone n F) (onPlaces n π ρ)
     real p =
         ap (butterflySource n F) (inverse-still n p)
         ∙ sym (place-num n (butterflySource n F p))

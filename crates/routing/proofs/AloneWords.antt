@@ -9,8 +9,8 @@ use Rattle.routing.specs.Alone.{ButterflyBrings, InverseBrings, butterfl
 use Rattle.routing.specs.Lists.{find, entry, ListPermutes, butterflyWords, inverseWords, butterflyFrom, inverseFrom, butterflyFits, inverseFits, butterflyAlone, inverseAlone}
 use Rattle.routing.proofs.Flat.{butterfly-cong, inverse-cong}
 use Rattle.routing.proofs.Alone.{butterfly-forced, butterfly-sound, butterfly-complete, inverse-forced, inverse-sound, inverse-complete}
-use Rattle.routing.proofs.Lists.{list-permutes}
-use Rattle.routing.proofs.Words.{butterfly-words, inverse-words, butterfly-words-cong, inverse-words-cong}
+use Rattle.routing.proofs.ListControls.{list-permutes}
+use Rattle.routing.proofs.StageWords.{butterfly-words, inverse-words, butterfly-words-cong, inverse-words-cong}
 
 module _ (n : ℕ) (entries : List ℕ) (is : ListPermutes (2 ^ n) entries) where
   abbrev back : ℕ → ℕ

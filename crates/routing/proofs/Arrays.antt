@@ -1,4 +1,4 @@
--- Marks held in an array: a store is a mark, and control an unset switch leaves one less unset.
+-- Marks held in an array: a store is a mark, and setting an unset switch leaves one less unset.
 -- Assumes nothing.
 use mathlib.Core.Path.{_≡_, refl, sym, ap, ap₂, _∙_}
 use mathlib.Core.Logic.{_≢_}

@@ -6,16 +6,16 @@ use mathlib.Core.Bool.{Bool, true, false, not}
 use Prim.Native.Nat.{ℕ, zero, suc, _≤_, _<_}
 use native.Mathlib.Decide.{decLt}
 use native.Mathlib.Omega.{arith}
-use Rattle.routing.specs.Loop.{Maps, IsPermutation, flip, side, Valid, turn, turns, lastStage}
-use Rattle.routing.specs.Marks.{Marks, set, Given, Right, Marked}
+use Rattle.routing.specs.Loop.{Maps, IsPermutation, flip, side, Valid, loopTurn, loopTurns, lastStage}
+use Rattle.routing.specs.Marks.{Marks, set, Given, Right, SetTo}
 use Rattle.routing.proofs.Stage.{flip-flip, flip-switch, same-switch}
 use Rattle.routing.proofs.Loop.{Numbered, turns-suc, same-on-loop}
 use Rattle.routing.proofs.First.{stageOne, first-valid}
-use Rattle.routing.proofs.Walk.{Settled, Walk, stand, walk-side, carry, given-here, given-still, right-still}
+use Rattle.routing.proofs.Walk.{Settled, Walk, stand, walk-side, given-along, given-here, given-still, right-still}
 
 module _ {S : Type 0} (K : Numbered S) (m : Maps (Bool × S)) (perm : IsPermutation m) where
-  from-back : (x : Bool × S) → m .from (flip (turn m x)) .1 ≡ m .from x .1
-  unfolding turn
+  from-back : (x : Bool × S) → m .from (flip (loopTurn m x)) .1 ≡ m .from x .1
+  unfolding loopTurn
   from-back x =
       rw (flip-flip (m .to (flip (m .from x))), perm .from-to (flip (m .from x))) (flip-switch (m .from x))
 
@@ -54,7 +54,7 @@ module _ {S : Type 0} (K : Numbered S) (m : Maps (Bool × S)) (perm : IsPermutat
     pub feed-step :
         {G G′ : Marks S}
         → Feeding M₀ s j G
-        → Marked G (m .from (stand K m perm s j) .1) (not (m .from (stand K m perm s j) .0)) G′
+        → SetTo G (m .from (stand K m perm s j) .1) (not (m .from (stand K m perm s j) .0)) G′
         → Feeding M₀ s (suc j) G′
     feed-step {G} {G′} p d =
         record {
@@ -72,19 +72,19 @@ module _ {S : Type 0} (K : Numbered S) (m : Maps (Bool × S)) (perm : IsPermutat
 
     pub feed-end :
         {G : Marks S} → Feeding M₀ s (suc j) G → stand K m perm s (suc j) .1 ≡ s → Fed M G
-    unfolding turns
+    unfolding loopTurns
     feed-end {G} p back = record { right = p .right; fed = λ x g. reach x (w .only (x .1) g) }
       where
-        round : (true, s) ≡ turn m (stand K m perm s j)
+        round : (true, s) ≡ loopTurn m (stand K m perm s j)
         round = sym (same-on-loop m perm (suc j) (true, s) back) ∙ turns-suc m perm j (true, s)
 
         other : (i : ℕ) → i ≤ j → Given G (m .from (flip (stand K m perm s i)) .1)
         other zero h =
-            carry
+            given-along
             (ap (λ (y : Bool × S). m .from (flip y) .1) round ∙ from-back (stand K m perm s j))
             (p .behind j (omega arith))
         other (suc i) h =
-            carry
+            given-along
             (ap (λ (y : Bool × S). m .from (flip y) .1) (turns-suc m perm i (true, s))
             ∙ from-back (stand K m perm s i))
             (p .behind i (omega arith))
@@ -106,5 +106,5 @@ module _ {S : Type 0} (K : Numbered S) (m : Maps (Bool × S)) (perm : IsPermutat
       let x = m .to (false, q) in
       let e = perm .from-to (false, q) in
       let g : Given G q =
-      carry (ap (λ (y : Bool × S). y .1) (sym e)) (d .fed x (st .below (x .1) (K .small (x .1)))) in
+      given-along (ap (λ (y : Bool × S). y .1) (sym e)) (d .fed x (st .below (x .1) (K .small (x .1)))) in
       g .is ∙ ap set (sym (d .right q (g .value) (g .is)))

@@ -8,7 +8,7 @@ use native.Mathlib.Decide.{decLt}
 use native.Mathlib.Omega.{arith}
 use lib.Dec.{leb}
 use borrow.Author.Tests.{leb-true, leb-false}
-use Rattle.routing.specs.Loop.{Maps, IsPermutation, xor, pass, flip, side, Valid, turn, turns, least, firstStage}
+use Rattle.routing.specs.Loop.{Maps, IsPermutation, xor, pass, flip, side, Valid, loopTurn, loopTurns, least, firstStage}
 use Rattle.routing.proofs.Stage.{not-not, flip-flip, flip-switch, side-flip, side-low}
 use Rattle.routing.proofs.Loop.{
   Numbered,
@@ -43,14 +43,14 @@ module _ {S : Type 0} (K : Numbered S) (m : Maps (Bool × S)) (perm : IsPermutat
   least-le :
       (k : ℕ) (x : Bool × S) (i : ℕ)
       → i ≤ k
-      → K .index (least (K .index) m k x .1) ≤ K .index (turns m i x .1)
-  unfolding least turns
+      → K .index (least (K .index) m k x .1) ≤ K .index (loopTurns m i x .1)
+  unfolding least loopTurns
   least-le zero x zero h = omega arith
   least-le zero x (suc i) h = absurd (omega arith)
-  least-le (suc k) x zero h = pick-le x (least (K .index) m k (turn m x)) .le-left
+  least-le (suc k) x zero h = pick-le x (least (K .index) m k (loopTurn m x)) .le-left
   least-le (suc k) x (suc i) h =
       omega
-      (arith, pick-le x (least (K .index) m k (turn m x)) .le-right, least-le k (turn m x) i (omega arith))
+      (arith, pick-le x (least (K .index) m k (loopTurn m x)) .le-right, least-le k (loopTurn m x) i (omega arith))
 
   pub leastOf : Bool × S → Bool × S
   leastOf x = least (K .index) m (K .count) x
@@ -63,7 +63,7 @@ module _ {S : Type 0} (K : Numbered S) (m : Maps (Bool × S)) (perm : IsPermutat
       bound z r =
           let p = period K m perm x in
           let w = within K m perm x p (r .steps) in
-          let e : turns m (w .0) x ≡ z = sym (w .2) ∙ r .ends in
+          let e : loopTurns m (w .0) x ≡ z = sym (w .2) ∙ r .ends in
           rw e at (least-le (K .count) x (w .0) (omega (arith, w .1, p .short)))
 
   least-same : (x y : Bool × S) → Reach m x y → leastOf x ≡ leastOf y
@@ -109,14 +109,14 @@ module _ {S : Type 0} (K : Numbered S) (m : Maps (Bool × S)) (perm : IsPermutat
       ∙ ap not (side-low stageOne s ∙ stage-low s)
       ∙ ap (λ (y : Bool × S). y .0) (sym (least-flip (false, s)))
 
-  side-first-turn : (x : Bool × S) → side stageOne (turn m x) ≡ side stageOne x
+  side-first-turn : (x : Bool × S) → side stageOne (loopTurn m x) ≡ side stageOne x
   side-first-turn x =
-      side-first (turn m x .0) (turn m x .1)
-      ∙ ap (λ (y : Bool × S). y .0) (sym (least-same x (turn m x) (reach-turn K m perm x)))
+      side-first (loopTurn m x .0) (loopTurn m x .1)
+      ∙ ap (λ (y : Bool × S). y .0) (sym (least-same x (loopTurn m x) (reach-turn K m perm x)))
       ∙ sym (side-first (x .0) (x .1))
 
   pub first-valid : Valid m stageOne
-  unfolding turn
+  unfolding loopTurn
   first-valid p =
       cc
       (side-first-turn (m .to p), perm .from-to p, side-flip stageOne (m .to (flip p)), not-not (side stageOne (m .to (flip p))))

@@ -5,11 +5,11 @@ use mathlib.Core.Logic.{_⊎_, inl, inr}
 use Prim.Native.Nat.{ℕ, _^_, _<_}
 use Rattle.routing.specs.Place.{Place, num, place}
 use Rattle.routing.specs.Loop.{IsPermutation}
-use Rattle.routing.specs.Net.{inverseSource, Net, source, Realises, firstNet}
-use Rattle.routing.specs.Stages.{Butterfly, Inverse, butterfly, inverse, Controls, network, Agree, Later, controls}
+use Rattle.routing.specs.Net.{inverseSource, Net, netSource, NetRealises, firstNet}
+use Rattle.routing.specs.Stages.{Butterfly, Inverse, butterfly, inverse, StageControls, network, Agree, ComesLater, netControls}
 use Rattle.routing.specs.FirstControls.{Permutes, Brings, IsFirst, onPlaces, firstControls}
 use Rattle.routing.proofs.Stage.{maps-path}
-use Rattle.routing.proofs.Places.{num-lt, place-num, num-place}
+use Rattle.routing.proofs.PlaceNumbers.{num-lt, place-num, num-place}
 use Rattle.routing.proofs.Halves.{first-realises}
 use Rattle.routing.proofs.Flat.{butterfly-source, inverse-source, reads-cong, reads-flat, treeOf, reads-tree}
 use Rattle.routing.proofs.Leads.{ReadsNet, leads}
@@ -17,22 +17,22 @@ use Rattle.routing.proofs.Later.{agree-or-later, later-asym}
 
 -- a net and its stages over the whole width move bits alike
 pub network-source :
-    (n : ℕ) (C : Controls) (N : Net n)
+    (n : ℕ) (C : StageControls) (N : Net n)
     → ReadsNet n C N
     → (p : Place n)
-    → network n C (num n p) ≡ num n (source n N p)
+    → network n C (num n p) ≡ num n (netSource n N p)
 unfolding network
 network-source n C N r p =
     ap (butterfly n (λ e. C (Butterfly e))) (inverse-source n (λ e. C (Inverse e)) (N .inverse) (r .inverse) p)
     ∙ butterfly-source n (λ e. C (Butterfly e)) (N .butterfly) (r .butterfly) (inverseSource n (N .inverse) p)
 
-pub reads-controls : (n : ℕ) (N : Net n) → ReadsNet n (controls n N) N
+pub reads-controls : (n : ℕ) (N : Net n) → ReadsNet n (netControls n N) N
 reads-controls n N = record { butterfly = reads-flat n (N .butterfly); inverse = reads-flat n (N .inverse) }
 
-pub netOf : (n : ℕ) → Controls → Net n
+pub netOf : (n : ℕ) → StageControls → Net n
 netOf n C = record { butterfly = treeOf n (λ e. C (Butterfly e)); inverse = treeOf n (λ e. C (Inverse e)) }
 
-pub reads-net : (n : ℕ) (C : Controls) → ReadsNet n C (netOf n C)
+pub reads-net : (n : ℕ) (C : StageControls) → ReadsNet n C (netOf n C)
 unfolding netOf
 reads-net n C =
     record {
@@ -109,7 +109,7 @@ module _ (n : ℕ) (π ρ : ℕ → ℕ) (perm : Permutes (2 ^ n) π ρ) where
 
   -- what a net realises on places, its stages bring on numbers, and back
   realises-brings :
-      (C : Controls) (N : Net n) → ReadsNet n C N → Realises n N (onPlaces n π ρ) → Brings n C π
+      (C : StageControls) (N : Net n) → ReadsNet n C N → NetRealises n N (onPlaces n π ρ) → Brings n C π
   unfolding onPlaces
   realises-brings C N r real p l =
       let e = num-place n p l in
@@ -120,14 +120,14 @@ module _ (n : ℕ) (π ρ : ℕ → ℕ) (perm : Permutes (2 ^ n) π ρ) where
       ∙ num-place n (π p) (perm .to-small p l)
 
   brings-realises :
-      (C : Controls) (N : Net n) → ReadsNet n C N → Brings n C π → Realises n N (onPlaces n π ρ)
+      (C : StageControls) (N : Net n) → ReadsNet n C N → Brings n C π → NetRealises n N (onPlaces n π ρ)
   unfolding onPlaces
   brings-realises C N r brings p =
-      sym (place-num n (source n N p))
+      sym (place-num n (netSource n N p))
       ∙ ap (place n) (sym (network-source n C N r p) ∙ brings (num n p) (num-lt n p))
 
   -- stages that have the controls of the first net are the first
-  pub reads-first : (C : Controls) → ReadsNet n C (firstNet n (onPlaces n π ρ)) → IsFirst n C π
+  pub reads-first : (C : StageControls) → ReadsNet n C (firstNet n (onPlaces n π ρ)) → IsFirst n C π
   reads-first C r =
       record {
         brings =
@@ -142,21 +142,21 @@ module _ (n : ℕ) (π ρ : ℕ → ℕ) (perm : Permutes (2 ^ n) π ρ) where
   pub first-controls : IsFirst n (firstControls n π ρ) π
   unfolding firstControls
   first-controls =
-      reads-first (controls n (firstNet n (onPlaces n π ρ)))
+      reads-first (netControls n (firstNet n (onPlaces n π ρ)))
       (reads-controls n (firstNet n (onPlaces n π ρ)))
 
 -- there is one first set
-pub first-unique : (n : ℕ) (π : ℕ → ℕ) (C D : Controls) → IsFirst n C π → IsFirst n D π → Agree n C D
+pub first-unique : (n : ℕ) (π : ℕ → ℕ) (C D : StageControls) → IsFirst n C π → IsFirst n D π → Agree n C D
 first-unique n π C D c d = go (c .others D (d .brings)) (d .others C (c .brings))
   where
-    go : Agree n C D ⊎ Later n C D → Agree n D C ⊎ Later n D C → Agree n C D
+    go : Agree n C D ⊎ ComesLater n C D → Agree n D C ⊎ ComesLater n D C → Agree n C D
     go (inl a) e = a
     go (inr l) (inl a) = λ c s i. sym (a c s i)
     go (inr l) (inr k) = absurd (later-asym n C D l k)
 
 -- sets that agree have the same net
 pub reads-net-cong :
-    (n : ℕ) (C D : Controls) (N : Net n) → Agree n C D → ReadsNet n D N → ReadsNet n C N
+    (n : ℕ) (C D : StageControls) (N : Net n) → Agree n C D → ReadsNet n D N → ReadsNet n C N
 reads-net-cong n C D N agree r =
     record {
       butterfly =
@@ -169,7 +169,7 @@ reads-net-cong n C D N agree r =
 
 -- and bring the same bits
 pub network-cong :
-    (n : ℕ) (C D : Controls) → Agree n C D → (p : ℕ) → p < 2 ^ n → network n C p ≡ network n D p
+    (n : ℕ) (C D : StageControls) → Agree n C D → (p : ℕ) → p < 2 ^ n → network n C p ≡ network n D p
 network-cong n C D agree p l =
     let e = num-place n p l in
     let r = reads-net n D in
@@ -180,14 +180,14 @@ network-cong n C D agree p l =
     ∙ ap (network n D) e
 
 -- so a set that agrees with the first is the first
-pub first-cong : (n : ℕ) (π : ℕ → ℕ) (C D : Controls) → Agree n C D → IsFirst n C π → IsFirst n D π
+pub first-cong : (n : ℕ) (π : ℕ → ℕ) (C D : StageControls) → Agree n C D → IsFirst n C π → IsFirst n D π
 first-cong n π C D agree c =
     record {
       brings = λ p l. sym (network-cong n C D agree p l) ∙ c .brings p l;
       others = λ E brings. go E (c .others E brings);
     }
   where
-    go : (E : Controls) → Agree n C E ⊎ Later n C E → Agree n D E ⊎ Later n D E
+    go : (E : StageControls) → Agree n C E ⊎ ComesLater n C E → Agree n D E ⊎ ComesLater n D E
     go E (inl a) = inl (λ c s i. sym (agree c s i) ∙ a c s i)
     go E (inr l) =
         inr

@@ -7,11 +7,11 @@ use native.Mathlib.Decide.{decLt}
 use native.Mathlib.Omega.{arith}
 use borrow.Author.Tests.{eq-eqb, ne-eqb}
 use Rattle.routing.specs.Place.{Place, weight, num, place, at, tab}
-use Rattle.routing.specs.Loop.{stage}
+use Rattle.routing.specs.Loop.{sent}
 use Rattle.routing.specs.Net.{ControlTree, half, butterflySource, inverseSource}
-use Rattle.routing.specs.Stages.{through, butterfly, inverse, InRange, Same, control, flat}
+use Rattle.routing.specs.Stages.{through, butterfly, inverse, InRange, Same, treeControl, flat}
 use Rattle.routing.proofs.Stage.{pair, stage-stage}
-use Rattle.routing.proofs.Places.{num-lt, num-place, weight-le, place-weight, place-num, at-tab}
+use Rattle.routing.proofs.PlaceNumbers.{num-lt, num-place, weight-le, place-weight, place-num, at-tab}
 use Rattle.routing.proofs.Through.{within, butterfly-within, inverse-within, through-top}
 
 -- c, by exponents and switch numbers, has the controls of F
@@ -47,7 +47,7 @@ pub inverse-source :
 unfolding num inverse inverseSource
 inverse-source zero c F r p = refl
 inverse-source (suc n) c F r p =
-    let q = stage (at n (F .outer)) p in
+    let q = sent (at n (F .outer)) p in
     let h = q .0 in
     ap (inverse n c) (through-top n (c n) (at n (F .outer)) (r .outer) p)
     ∙ inverse-within n h c (num n (q .1))
@@ -76,23 +76,23 @@ reads-cong (suc n) c d F agree r =
           reads-cong n (within n h c) (within n h d) (half n F h) (agree-within n h c d agree) (r .halves h);
     }
 
-control-outer : (n : ℕ) (F : ControlTree (suc n)) (q : Place n) → control n F n q ≡ at n (F .outer) q
-unfolding control
+control-outer : (n : ℕ) (F : ControlTree (suc n)) (q : Place n) → treeControl n F n q ≡ at n (F .outer) q
+unfolding treeControl
 control-outer zero F q = refl
 control-outer (suc n) F q =
     ap
-    (λ (b : Bool). cond b (at (suc n) (F .outer) q) (control n (half (suc n) F (q .0)) (suc n) (q .1)))
+    (λ (b : Bool). cond b (at (suc n) (F .outer) q) (treeControl n (half (suc n) F (q .0)) (suc n) (q .1)))
     (eq-eqb (suc n) (suc n) refl)
 
 control-inner :
     (k : ℕ) (F : ControlTree (suc (suc k))) (h : Bool) (e s : ℕ)
     → InRange (suc k) e s
-    → control (suc k) F e (place (suc k) (weight h k + s)) ≡ control k (half (suc k) F h) e (place k s)
-unfolding control
+    → treeControl (suc k) F e (place (suc k) (weight h k + s)) ≡ treeControl k (half (suc k) F h) e (place k s)
+unfolding treeControl
 control-inner k F h e s i =
-    ap (control (suc k) F e) (place-weight h k s (omega (arith, i .switch)))
+    ap (treeControl (suc k) F e) (place-weight h k s (omega (arith, i .switch)))
     ∙ ap
-    (λ (b : Bool). cond b (at (suc k) (F .outer) (h, place k s)) (control k (half (suc k) F h) e (place k s)))
+    (λ (b : Bool). cond b (at (suc k) (F .outer) (h, place k s)) (treeControl k (half (suc k) F h) e (place k s)))
     (ne-eqb e (suc k) (λ q. absurd (omega (arith, i .at-stage))))
 
 -- the stages of a network by halves, read over the whole width
@@ -101,7 +101,7 @@ unfolding flat
 reads-flat zero F = tt
 reads-flat (suc n) F =
     record {
-      outer = λ q. ap (control n F n) (place-num n q) ∙ control-outer n F q;
+      outer = λ q. ap (treeControl n F n) (place-num n q) ∙ control-outer n F q;
       halves = λ h.
           reads-cong n (within n h (flat (suc n) F)) (flat n (half n F h)) (half n F h) (inner n F h)
           (reads-flat n (half n F h));
@@ -174,8 +174,8 @@ pub butterfly-inverse-place : (n : ℕ) (F : ControlTree n) (p : Place n) → bu
 unfolding butterflySource inverseSource
 butterfly-inverse-place zero F p = refl
 butterfly-inverse-place (suc n) F p =
-    let q = stage (at n (F .outer)) p in
-    ap (λ (y : Place n). stage (at n (F .outer)) (q .0, y)) (butterfly-inverse-place n (half n F (q .0)) (q .1))
+    let q = sent (at n (F .outer)) p in
+    ap (λ (y : Place n). sent (at n (F .outer)) (q .0, y)) (butterfly-inverse-place n (half n F (q .0)) (q .1))
     ∙ stage-stage (at n (F .outer)) p
 
 pub inverse-butterfly-place : (n : ℕ) (F : ControlTree n) (p : Place n) → inverseSource n F (butterflySource n F p) ≡ p

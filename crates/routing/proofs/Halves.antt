@@ -4,11 +4,11 @@ use mathlib.Core.Path.{_≡_, refl, sym, ap, ap₂, _∙_, subst}
 use mathlib.Core.Bool.{Bool, true, false}
 use Prim.Native.Nat.{ℕ, zero, suc, _^_}
 use Rattle.routing.specs.Place.{Place, num, at, tab}
-use Rattle.routing.specs.Loop.{Maps, IsPermutation, xor, flip, side, stage, Valid, firstStage, lastStage, between}
-use Rattle.routing.specs.Net.{half, butterflySource, inverseSource, Net, source, Realises, part, join, firstNet}
+use Rattle.routing.specs.Loop.{Maps, IsPermutation, xor, flip, side, sent, Valid, firstStage, lastStage, between}
+use Rattle.routing.specs.Net.{half, butterflySource, inverseSource, Net, netSource, NetRealises, part, join, firstNet}
 use Rattle.routing.proofs.Stage.{pair, xor-comm, xor-false, stage-stage, side-stage, stage-side}
 use Rattle.routing.proofs.First.{first-valid}
-use Rattle.routing.proofs.Places.{numbered, at-tab, at-tab-all}
+use Rattle.routing.proofs.PlaceNumbers.{numbered, at-tab, at-tab-all}
 
 -- each bit stays in its half
 abbrev pub Keeps : {S : Type 0} → Maps (Bool × S) → Type 0
@@ -20,9 +20,9 @@ module _ {S : Type 0} (m : Maps (Bool × S)) (perm : IsPermutation m) where
   between-permutation f g =
       record {
         to-from = λ x.
-            rw (stage-stage g (m .from (stage f x)), perm .to-from (stage f x)) (stage-stage f x);
+            rw (stage-stage g (m .from (sent f x)), perm .to-from (sent f x)) (stage-stage f x);
         from-to = λ p.
-            rw (stage-stage f (m .to (stage g p)), perm .from-to (stage g p)) (stage-stage g p);
+            rw (stage-stage f (m .to (sent g p)), perm .from-to (sent g p)) (stage-stage g p);
       }
 
   keeps-from : Keeps m → (x : Bool × S) → m .from x .0 ≡ x .0
@@ -41,8 +41,8 @@ module _ {S : Type 0} (m : Maps (Bool × S)) (perm : IsPermutation m) where
   -- stages whose sides match keep each bit between them in its half
   pub sides-keep :
       (f g : S → Bool) → ((p : Bool × S) → side f (m .to p) ≡ side g p) → Keeps (between m f g)
-  unfolding between stage
-  sides-keep f g sides p = sides (stage g p) ∙ side-stage g p
+  unfolding between sent
+  sides-keep f g sides p = sides (sent g p) ∙ side-stage g p
 
 -- what the tables of a half hold
 pub part-to : (n : ℕ) (m : Maps (Place (suc n))) (h : Bool) (q : Place n) → part n m h .to q ≡ m .to (h, q) .1
@@ -84,37 +84,37 @@ module _ (n : ℕ) (N : Net (suc n)) (m : Maps (Place (suc n))) where
 
   -- the two nets between the outer stages
   abbrev inner : Place (suc n) → Place (suc n)
-  inner p = (p .0, source n (halfNet n N (p .0)) (p .1))
+  inner p = (p .0, netSource n (halfNet n N (p .0)) (p .1))
 
-  source-stages : (p : Place (suc n)) → source (suc n) N p ≡ stage f (inner (stage g p))
+  source-stages : (p : Place (suc n)) → netSource (suc n) N p ≡ sent f (inner (sent g p))
   unfolding butterflySource inverseSource
   source-stages p = refl
 
   -- the outer stages of a net that realises m match
-  pub realises-sides : Realises (suc n) N m → (p : Place (suc n)) → side f (m .to p) ≡ side g p
-  realises-sides r p = ap (side f) (sym (r p) ∙ source-stages p) ∙ side-stage f (inner (stage g p)) ∙ stage-side g p
+  pub realises-sides : NetRealises (suc n) N m → (p : Place (suc n)) → side f (m .to p) ≡ side g p
+  realises-sides r p = ap (side f) (sym (r p) ∙ source-stages p) ∙ side-stage f (inner (sent g p)) ∙ stage-side g p
 
-  between-inner : Realises (suc n) N m → (p : Place (suc n)) → between m f g .to p ≡ inner p
+  between-inner : NetRealises (suc n) N m → (p : Place (suc n)) → between m f g .to p ≡ inner p
   unfolding between
   between-inner r p =
-      ap (stage f) (sym (r (stage g p)) ∙ source-stages (stage g p))
-      ∙ stage-stage f (inner (stage g (stage g p)))
+      ap (sent f) (sym (r (sent g p)) ∙ source-stages (sent g p))
+      ∙ stage-stage f (inner (sent g (sent g p)))
       ∙ ap inner (stage-stage g p)
 
   -- and its halves realise what is left
-  pub realises-half : Realises (suc n) N m → (h : Bool) → Realises n (halfNet n N h) (part n (between m f g) h)
+  pub realises-half : NetRealises (suc n) N m → (h : Bool) → NetRealises n (halfNet n N h) (part n (between m f g) h)
   realises-half r h q =
       sym (part-to n (between m f g) h q ∙ ap (λ (y : Place (suc n)). y .1) (between-inner r (h, q)))
 
   pub realises-whole :
       Keeps (between m f g)
-      → ((h : Bool) → Realises n (halfNet n N h) (part n (between m f g) h))
-      → Realises (suc n) N m
+      → ((h : Bool) → NetRealises n (halfNet n N h) (part n (between m f g) h))
+      → NetRealises (suc n) N m
   unfolding between
   realises-whole keeps halves p =
       source-stages p
-      ∙ ap (stage f) (is (stage g p))
-      ∙ stage-stage f (m .to (stage g (stage g p)))
+      ∙ ap (sent f) (is (sent g p))
+      ∙ stage-stage f (m .to (sent g (sent g p)))
       ∙ ap (m .to) (stage-stage g p)
     where
       is : (p : Place (suc n)) → inner p ≡ between m f g .to p
@@ -152,15 +152,15 @@ module _ (n : ℕ) (m : Maps (Place (suc n))) (perm : IsPermutation m) where
   left-part = part-permutation n left (between-permutation m perm outerFirst (lastStage m outerFirst)) left-keeps
 
   first-whole :
-      ((h : Bool) → Realises n (firstNet n (part n left h)) (part n left h)) → Realises (suc n) (firstNet (suc n) m) m
+      ((h : Bool) → NetRealises n (firstNet n (part n left h)) (part n left h)) → NetRealises (suc n) (firstNet (suc n) m) m
   first-whole halves =
       realises-whole n (firstNet (suc n) m) m
       (rw first-between left-keeps)
       (λ h.
       rw first-between
-      (subst (λ (K : Net n). Realises n K (part n left h)) (sym (first-half h)) (halves h)))
+      (subst (λ (K : Net n). NetRealises n K (part n left h)) (sym (first-half h)) (halves h)))
 
-pub first-realises : (n : ℕ) (m : Maps (Place n)) → IsPermutation m → Realises n (firstNet n m) m
+pub first-realises : (n : ℕ) (m : Maps (Place n)) → IsPermutation m → NetRealises n (firstNet n m) m
 first-realises zero m perm = λ p. refl
 first-realises (suc n) m perm =
     first-whole n m perm (λ h. first-realises n (part n (left n m perm) h) (left-part n m perm h))

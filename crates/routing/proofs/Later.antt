@@ -1,4 +1,4 @@
--- From leading to coming later: the first difference, by a finite search in the permutation of travel.
+-- From leading to coming later: the first difference, by a finite search in the direction of travel.
 -- Assumes nothing.
 use mathlib.Core.Path.{_≡_, refl, sym, ap, _∙_, subst}
 use mathlib.Core.Logic.{_⊎_, inl, inr, _≢_}
@@ -9,7 +9,7 @@ use native.Mathlib.Omega.{arith}
 use lib.Dec.{ltb}
 use borrow.Author.Tests.{lt-ltb, le-ltb, ltb-true, ltb-false}
 use Rattle.routing.specs.Loop.{pass, swap}
-use Rattle.routing.specs.Stages.{Stage, Butterfly, Inverse, exponent, Controls, Earlier, Before, AgreeBefore, Agree, Later, Leads}
+use Rattle.routing.specs.Stages.{Stage, Butterfly, Inverse, exponent, StageControls, Earlier, SwitchBefore, AgreeBefore, Agree, ComesLater, Leads}
 use Rattle.routing.proofs.Finite.{Least, least-or-none}
 
 -- the place of a stage in the direction of travel, and the stage at a place
@@ -67,7 +67,7 @@ swap-if-not-pass : (b : Bool) → b ≢ pass → b ≡ swap
 swap-if-not-pass true ne = refl
 swap-if-not-pass false ne = absurd (ne refl)
 
-module _ (n : ℕ) (C D : Controls) where
+module _ (n : ℕ) (C D : StageControls) where
   -- C and D differ at a switch of a stage
   record Apart (c : Stage) (s : ℕ) : Type 0 where
     inside : s + s < 2 ^ n
@@ -107,11 +107,11 @@ module _ (n : ℕ) (C D : Controls) where
       → (c : Stage) (w : FirstApart c)
       → exponent c < n
       → AgreeBefore n C D c (w .value)
-      → Later n C D
+      → ComesLater n C D
   later-at lead c w h before =
       go (lead c (w .value) (record { at-stage = h; switch = w .holds .inside }) before)
     where
-      go : (C c (w .value) ≡ pass) ⊎ (C c (w .value) ≡ D c (w .value)) → Later n C D
+      go : (C c (w .value) ≡ pass) ⊎ (C c (w .value) ≡ D c (w .value)) → ComesLater n C D
       go (inr e) = absurd (w .holds .differ e)
       go (inl e) =
           record {
@@ -123,7 +123,7 @@ module _ (n : ℕ) (C D : Controls) where
             swaps = swap-if-not-pass (D c (w .value)) (λ q. w .holds .differ (e ∙ sym q));
           }
 
-  pub agree-or-later : Leads n C D → Agree n C D ⊎ Later n C D
+  pub agree-or-later : Leads n C D → Agree n C D ⊎ ComesLater n C D
   agree-or-later lead =
       go (least-or-none (λ r. FirstApart (stage-at n r)) (λ r. stage-apart? (stage-at n r)) (n + n))
     where
@@ -133,7 +133,7 @@ module _ (n : ℕ) (C D : Controls) where
       go :
           Least (λ r. FirstApart (stage-at n r)) (n + n)
           ⊎ ((r : ℕ) → r < n + n → ¬ (FirstApart (stage-at n r)))
-          → Agree n C D ⊎ Later n C D
+          → Agree n C D ⊎ ComesLater n C D
       go (inr none) =
           inl
           (λ c s i.
@@ -177,17 +177,17 @@ stage-total (Inverse a) (Inverse b) = go (decLt a b) (decLt b a)
     go (no g) (yes l) = inr (inr l)
     go (no g) (no k) = let e : a ≡ b = omega arith in inr (inl (ap Inverse e))
 
--- the permutation of travel is total
+-- the order of travel is total
 pub before-total :
     (c : Stage) (s : ℕ) (d : Stage) (t : ℕ)
-    → Before c s d t ⊎ ((c ≡ d) × (s ≡ t)) ⊎ Before d t c s
+    → SwitchBefore c s d t ⊎ ((c ≡ d) × (s ≡ t)) ⊎ SwitchBefore d t c s
 before-total c s d t = go (stage-total c d) (decLt s t) (decLt t s)
   where
     go :
         Earlier c d ⊎ (c ≡ d) ⊎ Earlier d c
         → Dec (s < t)
         → Dec (t < s)
-        → Before c s d t ⊎ ((c ≡ d) × (s ≡ t)) ⊎ Before d t c s
+        → SwitchBefore c s d t ⊎ ((c ≡ d) × (s ≡ t)) ⊎ SwitchBefore d t c s
     go (inl e) a b = inl (inl e)
     go (inr (inr e)) a b = inr (inr (inl e))
     go (inr (inl e)) (yes l) b = inl (inr (e, l))
@@ -195,13 +195,13 @@ before-total c s d t = go (stage-total c d) (decLt s t) (decLt t s)
     go (inr (inl e)) (no g) (no k) = let q : s ≡ t = omega arith in inr (inl (e, q))
 
 -- no two sets come later than each other
-pub later-asym : (n : ℕ) (C D : Controls) → Later n C D → Later n D C → ⊥
+pub later-asym : (n : ℕ) (C D : StageControls) → ComesLater n C D → ComesLater n D C → ⊥
 later-asym n C D l k = go (before-total (l .at-stage) (l .switch) (k .at-stage) (k .switch))
   where
     go :
-        Before (l .at-stage) (l .switch) (k .at-stage) (k .switch)
+        SwitchBefore (l .at-stage) (l .switch) (k .at-stage) (k .switch)
         ⊎ ((l .at-stage ≡ k .at-stage) × (l .switch ≡ k .switch))
-        ⊎ Before (k .at-stage) (k .switch) (l .at-stage) (l .switch)
+        ⊎ SwitchBefore (k .at-stage) (k .switch) (l .at-stage) (l .switch)
         → ⊥
     go (inl b) =
         true≢false (sym (l .swaps) ∙ k .before (l .at-stage) (l .switch) (l .inside) b ∙ l .passes)

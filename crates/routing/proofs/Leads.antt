@@ -1,4 +1,4 @@
--- The first net leads every net that realises the permutation, in the permutation of travel over the whole width.
+-- The first net leads every net that realises the permutation, in the direction of travel over the whole width.
 -- Assumes nothing.
 use mathlib.Core.Path.{_≡_, refl, sym, ap, ap₂, _∙_, subst, fun-ext}
 use mathlib.Core.Logic.{_⊎_, inl, inr}
@@ -8,16 +8,16 @@ use native.Mathlib.Decide.{decLt}
 use native.Mathlib.Omega.{arith}
 use Rattle.routing.specs.Place.{Place, weight, num, place, at}
 use Rattle.routing.specs.Loop.{Maps, IsPermutation, pass, flip, Valid, lastStage, between}
-use Rattle.routing.specs.Net.{Net, Realises, part, firstNet}
-use Rattle.routing.specs.Stages.{Stage, Butterfly, Inverse, exponent, Controls, Earlier, Before, AgreeBefore, Leads}
+use Rattle.routing.specs.Net.{Net, NetRealises, part, firstNet}
+use Rattle.routing.specs.Stages.{Stage, Butterfly, Inverse, exponent, StageControls, Earlier, SwitchBefore, AgreeBefore, Leads}
 use Rattle.routing.proofs.Stage.{side-flip, side-low}
 use Rattle.routing.proofs.First.{first-leads}
-use Rattle.routing.proofs.Places.{num-lt, num-place, numbered}
+use Rattle.routing.proofs.PlaceNumbers.{num-lt, num-place, numbered}
 use Rattle.routing.proofs.Halves.{halfNet, realises-sides, realises-half, outerFirst, left, first-first, first-last, first-half, left-part}
 use Rattle.routing.proofs.Through.{within}
 use Rattle.routing.proofs.Flat.{Reads, within-range}
 
-pub record ReadsNet (n : ℕ) (C : Controls) (N : Net n) : Type 0 where
+pub record ReadsNet (n : ℕ) (C : StageControls) (N : Net n) : Type 0 where
   pub butterfly : Reads n (λ e. C (Butterfly e)) (N .butterfly)
   pub inverse : Reads n (λ e. C (Inverse e)) (N .inverse)
 
@@ -25,11 +25,11 @@ module _
     (n : ℕ)
     (m : Maps (Place (suc n)))
     (perm : IsPermutation m)
-    (C D : Controls)
+    (C D : StageControls)
     (N : Net (suc n))
     (rc : ReadsNet (suc n) C (firstNet (suc n) m))
     (rd : ReadsNet (suc n) D N)
-    (real : Realises (suc n) N m)
+    (real : NetRealises (suc n) N m)
   where
     abbrev f : Place n → Bool
     f = at n (N .butterfly .outer)
@@ -88,20 +88,20 @@ module _
           ∙ ap (λ (k : Place n → Bool). k q) (sym last-follows)
           ∙ sym (rd .inverse .outer q)
 
-      half-realises : (h : Bool) → Realises n (halfNet n N h) (part n (left n m perm) h)
+      half-realises : (h : Bool) → NetRealises n (halfNet n N h) (part n (left n m perm) h)
       half-realises h =
-          subst (λ (b : Maps (Place (suc n))). Realises n (halfNet n N h) (part n b h))
+          subst (λ (b : Maps (Place (suc n))). NetRealises n (halfNet n N h) (part n b h))
           (ap₂ (between m) first-same (last-follows ∙ ap (lastStage m) first-same))
           (realises-half n N m real h)
 
 -- the halves are read by the halves
 pub reads-half :
-    (n : ℕ) (C : Controls) (N : Net (suc n)) → ReadsNet (suc n) C N → (h : Bool) → ReadsNet n (within n h C) (halfNet n N h)
+    (n : ℕ) (C : StageControls) (N : Net (suc n)) → ReadsNet (suc n) C N → (h : Bool) → ReadsNet n (within n h C) (halfNet n N h)
 reads-half zero C N r h = record { butterfly = tt; inverse = tt }
 reads-half (suc k) C N r h = record { butterfly = r .butterfly .halves h; inverse = r .inverse .halves h }
 
 pub reads-join :
-    (n : ℕ) (C : Controls) (N : Net (suc n))
+    (n : ℕ) (C : StageControls) (N : Net (suc n))
     → ((q : Place n) → C (Butterfly n) (num n q) ≡ at n (N .butterfly .outer) q)
     → ((q : Place n) → C (Inverse n) (num n q) ≡ at n (N .inverse .outer) q)
     → ((h : Bool) → ReadsNet n (within n h C) (halfNet n N h))
@@ -115,16 +115,16 @@ reads-join (suc k) C N first last halves =
     }
 
 before-shift :
-    (d c : Stage) (w t s : ℕ) → Before d t c s → Before d (w + t) c (w + s)
+    (d c : Stage) (w t s : ℕ) → SwitchBefore d t c s → SwitchBefore d (w + t) c (w + s)
 before-shift d c w t s (inl e) = inl e
 before-shift d c w t s (inr (e, l)) = inr (e, omega arith)
 
-abbrev Leading : Controls → Controls → Stage → ℕ → Type 0
+abbrev Leading : StageControls → StageControls → Stage → ℕ → Type 0
 Leading C D c s = (C c s ≡ pass) ⊎ (C c s ≡ D c s)
 
 -- a switch of an inner stage stands in one half, and all before it there comes before it in the whole
 inner-stage :
-    (n : ℕ) (C D : Controls)
+    (n : ℕ) (C D : StageControls)
     → ((h : Bool) → Leads n (within n h C) (within n h D))
     → (c : Stage)
     → exponent c < n
@@ -145,10 +145,10 @@ abbrev pub LeadsAll : ℕ → Type 0
 LeadsAll n =
     (m : Maps (Place n))
     → IsPermutation m
-    → (C D : Controls) (N : Net n)
+    → (C D : StageControls) (N : Net n)
     → ReadsNet n C (firstNet n m)
     → ReadsNet n D N
-    → Realises n N m
+    → NetRealises n N m
     → Leads n C D
 
 module _
@@ -156,11 +156,11 @@ module _
     (ih : LeadsAll n)
     (m : Maps (Place (suc n)))
     (perm : IsPermutation m)
-    (C D : Controls)
+    (C D : StageControls)
     (N : Net (suc n))
     (rc : ReadsNet (suc n) C (firstNet (suc n) m))
     (rd : ReadsNet (suc n) D N)
-    (real : Realises (suc n) N m)
+    (real : NetRealises (suc n) N m)
   where
     halves-lead :
         ((q : Place n) → C (Butterfly n) (num n q) ≡ D (Butterfly n) (num n q))

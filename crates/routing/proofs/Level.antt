@@ -9,13 +9,13 @@ use lib.Dec.{leb, ltb}
 use lib.Pow.{pow-pos}
 use borrow.Author.Tests.{lt-ltb, le-ltb, ltb-true, ltb-false}
 use Rattle.routing.specs.Place.{Place, weight, num, place}
-use Rattle.routing.specs.Loop.{Maps, IsPermutation, xor, flip, side, stage, firstStage, lastStage, between}
+use Rattle.routing.specs.Loop.{Maps, IsPermutation, xor, flip, side, sent, firstStage, lastStage, between}
 use Rattle.routing.specs.Net.{firstNet, part}
-use Rattle.routing.specs.Stages.{Butterfly, Inverse, Controls}
+use Rattle.routing.specs.Stages.{Butterfly, Inverse, StageControls}
 use Rattle.routing.specs.FirstControls.{Permutes, onPlaces}
 use Rattle.routing.specs.Level.{other, firstSwap, lastSwap, halfTo, halfFrom}
 use Rattle.routing.proofs.Stage.{maps-path}
-use Rattle.routing.proofs.Places.{num-lt, place-num, weight-top, weight-rest}
+use Rattle.routing.proofs.PlaceNumbers.{num-lt, place-num, weight-top, weight-rest}
 use Rattle.routing.proofs.Halves.{first-first, first-last, first-half, left-part, part-to, part-from}
 use Rattle.routing.proofs.Through.{within}
 use Rattle.routing.proofs.Leads.{ReadsNet, reads-join}
@@ -63,10 +63,10 @@ unfolding num flip
 num-flip n p = sym (other-weight n (num n (p .1)) (p .0) (num-lt n (p .1)))
 
 -- C has the controls of the first net of a permutation
-abbrev pub ReadsFirst : (n : ℕ) → Controls → (ℕ → ℕ) → (ℕ → ℕ) → Type 0
+abbrev pub ReadsFirst : (n : ℕ) → StageControls → (ℕ → ℕ) → (ℕ → ℕ) → Type 0
 ReadsFirst n C π ρ = ReadsNet n C (firstNet n (onPlaces n π ρ))
 
-pub reads-none : (C : Controls) (π ρ : ℕ → ℕ) → ReadsFirst 0 C π ρ
+pub reads-none : (C : StageControls) (π ρ : ℕ → ℕ) → ReadsFirst 0 C π ρ
 reads-none C π ρ = record { butterfly = tt; inverse = tt }
 
 module _ (n : ℕ) (π ρ : ℕ → ℕ) (perm : Permutes (2 ^ suc n) π ρ) where
@@ -85,7 +85,7 @@ module _ (n : ℕ) (π ρ : ℕ → ℕ) (perm : Permutes (2 ^ suc n) π ρ) whe
       → ((q : Place n) → g (num n q) ≡ G q)
       → (h : Bool)
       → part n (between m F G) h ≡ onPlaces n (halfTo n π g h) (halfFrom n ρ f h)
-  unfolding between stage side onPlaces num place
+  unfolding between sent side onPlaces num place
   half-part f g fs gs h =
       maps-path
       (fun-ext
@@ -123,7 +123,7 @@ module _ (n : ℕ) (π ρ : ℕ → ℕ) (perm : Permutes (2 ^ suc n) π ρ) whe
 
       -- the two outer stages and the halves make the whole
       pub reads-step :
-          (C : Controls)
+          (C : StageControls)
           → ((s : ℕ) → s < 2 ^ n → C (Butterfly n) s ≡ f s)
           → ((s : ℕ) → s < 2 ^ n → C (Inverse n) s ≡ g s)
           → ((h : Bool) → ReadsFirst n (within n h C) (halfTo n π g h) (halfFrom n ρ f h))

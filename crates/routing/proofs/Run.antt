@@ -12,11 +12,11 @@ use Rattle.routing.specs.Loop.{pass}
 use Rattle.routing.specs.Marks.{Mark, unset, set, countUnset}
 use Rattle.routing.specs.Place.{weight}
 use Rattle.routing.specs.Net.{firstNet}
-use Rattle.routing.specs.Stages.{Stage, Butterfly, Inverse, exponent, Controls, Agree}
+use Rattle.routing.specs.Stages.{Stage, Butterfly, Inverse, exponent, StageControls, Agree}
 use Rattle.routing.specs.FirstControls.{Permutes, IsFirst, onPlaces}
 use Rattle.routing.specs.Level.{other, firstSwap, lastSwap, halfTo, halfFrom, Sets}
-use Rattle.routing.proofs.Steps.{Done, At, After, Set, done-start, done-skip, done-end, at-start, at-last, after-end, after-unset, after-next}
-use Rattle.routing.proofs.Places.{weight-top, weight-rest}
+use Rattle.routing.proofs.WalkSteps.{Done, At, After, Set, done-start, done-skip, done-end, at-start, at-last, after-end, after-unset, after-next}
+use Rattle.routing.proofs.PlaceNumbers.{weight-top, weight-rest}
 use Rattle.routing.proofs.Through.{within}
 use Rattle.routing.proofs.FirstControls.{reads-net-cong, reads-first}
 use Rattle.routing.proofs.Level.{ReadsFirst, reads-none, half-permutes, reads-step}
@@ -125,18 +125,18 @@ value unset = pass
 value (set v) = v
 
 -- the outer stages of exponent n, and the two halves side by side between them
-wide : (n : ℕ) → (ℕ → Bool) → (ℕ → Bool) → Controls
+wide : (n : ℕ) → (ℕ → Bool) → (ℕ → Bool) → StageControls
 wide n f g (Butterfly e) = f
 wide n f g (Inverse e) = g
 
-beside : (n : ℕ) → Controls → (Bool → Controls) → Controls
+beside : (n : ℕ) → StageControls → (Bool → StageControls) → StageControls
 beside zero C D c s = C c s
 beside (suc k) C D c s =
     let inner = D (leb (2 ^ k) s) c (s % 2 ^ k) in
     cond (eqb (exponent c) (suc k)) (C c s) inner
 
 -- code that sweeps, and calls itself on the half permutations
-run : (n : ℕ) → (ℕ → ℕ) → (ℕ → ℕ) → Controls
+run : (n : ℕ) → (ℕ → ℕ) → (ℕ → ℕ) → StageControls
 run zero π ρ = λ c s. pass
 run (suc n) π ρ =
     let t = sweep n π ρ (2 ^ n) in
@@ -144,13 +144,13 @@ run (suc n) π ρ =
     let g : ℕ → Bool = λ s. value (t .last s) in
     beside n (wide n f g) (λ h. run n (halfTo n π g h) (halfFrom n ρ f h))
 
-beside-outer : (n : ℕ) (C : Controls) (D : Bool → Controls) (c : Stage) (s : ℕ) → exponent c ≡ n → beside n C D c s ≡ C c s
+beside-outer : (n : ℕ) (C : StageControls) (D : Bool → StageControls) (c : Stage) (s : ℕ) → exponent c ≡ n → beside n C D c s ≡ C c s
 unfolding beside
 beside-outer zero C D c s e = refl
 beside-outer (suc k) C D c s e =
     ap (λ (b : Bool). cond b (C c s) (D (leb (2 ^ k) s) c (s % 2 ^ k))) (eq-eqb (exponent c) (suc k) e)
 
-beside-inner : (n : ℕ) (C : Controls) (D : Bool → Controls) (h : Bool) → Agree n (within n h (beside n C D)) (D h)
+beside-inner : (n : ℕ) (C : StageControls) (D : Bool → StageControls) (h : Bool) → Agree n (within n h (beside n C D)) (D h)
 unfolding beside
 beside-inner zero C D h c s i = absurd (omega (arith, i .at-stage))
 beside-inner (suc k) C D h c s i =
@@ -184,7 +184,7 @@ run-reads (suc n) π ρ perm =
         → ReadsFirst n (run n (halfTo n π g h) (halfFrom n ρ f h)) (halfTo n π g h) (halfFrom n ρ f h))
         → ReadsFirst (suc n) (beside n (wide n f g) (λ h. run n (halfTo n π g h) (halfFrom n ρ f h))) π ρ
     step f g fs gs ih =
-        let D : Bool → Controls = λ h. run n (halfTo n π g h) (halfFrom n ρ f h) in
+        let D : Bool → StageControls = λ h. run n (halfTo n π g h) (halfFrom n ρ f h) in
         let C = beside n (wide n f g) D in
         reads-step n π ρ perm f g fs gs C
         (λ s l. beside-outer n (wide n f g) D (Butterfly n) s refl)

@@ -3,7 +3,7 @@
 use mathlib.Core.Path.{_≡_, refl, sym, ap, _∙_}
 use mathlib.Core.Logic.{_⊎_, inl, inr}
 use mathlib.Core.Bool.{Bool, true, false, not, true≢false, false≢true}
-use Rattle.routing.specs.Loop.{Maps, xor, flip, side, stage}
+use Rattle.routing.specs.Loop.{Maps, xor, flip, side, sent}
 
 pub not-not : (b : Bool) → not (not b) ≡ b
 not-not true = refl
@@ -64,16 +64,16 @@ module _ {S : Type 0} where
   unfolding flip side
   side-flip f x = xor-not (f (x .1)) (x .0)
 
-  pub stage-stage : (f : S → Bool) (x : Bool × S) → stage f (stage f x) ≡ x
-  unfolding stage side
+  pub stage-stage : (f : S → Bool) (x : Bool × S) → sent f (sent f x) ≡ x
+  unfolding sent side
   stage-stage f x = ap (λ (b : Bool). (b, x .1)) (xor-xor (f (x .1)) (x .0))
 
-  pub side-stage : (f : S → Bool) (x : Bool × S) → side f (stage f x) ≡ x .0
-  unfolding stage side
+  pub side-stage : (f : S → Bool) (x : Bool × S) → side f (sent f x) ≡ x .0
+  unfolding sent side
   side-stage f x = xor-xor (f (x .1)) (x .0)
 
-  pub stage-side : (f : S → Bool) (x : Bool × S) → stage f x .0 ≡ side f x
-  unfolding stage
+  pub stage-side : (f : S → Bool) (x : Bool × S) → sent f x .0 ≡ side f x
+  unfolding sent
   stage-side f x = refl
 
   pub side-low : (f : S → Bool) (s : S) → side f (false, s) ≡ f s

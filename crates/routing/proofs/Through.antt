@@ -10,17 +10,17 @@ use lib.Dec.{eqb}
 use lib.Pow.{pow-pos, pow-add}
 use borrow.Author.Tests.{eqb-false}
 use Rattle.routing.specs.Place.{Place, weight, num}
-use Rattle.routing.specs.Loop.{xor, side, stage}
-use Rattle.routing.specs.Stages.{switchOf, partner, through, butterfly, inverse}
-use Rattle.routing.proofs.Places.{num-lt, weight-le, weight-rest}
+use Rattle.routing.specs.Loop.{xor, side, sent}
+use Rattle.routing.specs.Stages.{switchAt, partnerAt, through, butterfly, inverse}
+use Rattle.routing.proofs.PlaceNumbers.{num-lt, weight-le, weight-rest}
 
 -- H blocks of twice the distance to the right: everything moves by them
 module _ (e H x : ℕ) where
   block : H * 2 ^ suc e ≡ H * 2 * 2 ^ e
   block = rw pow-suc (omega arith)
 
-  switch-offset : switchOf e (H * 2 ^ suc e + x) ≡ H * 2 ^ e + switchOf e x
-  unfolding switchOf
+  switch-offset : switchAt e (H * 2 ^ suc e + x) ≡ H * 2 ^ e + switchAt e x
+  unfolding switchAt
   switch-offset =
       let q = mul-add-div-right (pow-pos (suc e)) H x in
       let r : (H * 2 ^ suc e + x) % 2 ^ e ≡ x % 2 ^ e = rw block (mul-add-mod-self-right (H * 2) (2 ^ e) x) in
@@ -38,8 +38,8 @@ module _ (e H x : ℕ) where
       go (yes l) = absurd (odd (ap (λ (y : ℕ). y % 2) (div-eq-of-lt l)))
       go (no n) = omega arith
 
-  partner-offset : partner e (H * 2 ^ suc e + x) ≡ H * 2 ^ suc e + partner e x
-  unfolding partner
+  partner-offset : partnerAt e (H * 2 ^ suc e + x) ≡ H * 2 ^ suc e + partnerAt e x
+  unfolding partnerAt
   partner-offset =
       ap
       (λ (y : ℕ). cond (eqb y 0) (H * 2 ^ suc e + x + 2 ^ e) (H * 2 ^ suc e + x - 2 ^ e))
@@ -58,9 +58,9 @@ module _ (e H x : ℕ) where
   unfolding through
   through-offset c =
       ap₂ (λ (s y : ℕ). cond (c s) y (H * 2 ^ suc e + x)) switch-offset partner-offset
-      ∙ go (c (H * 2 ^ e + switchOf e x))
+      ∙ go (c (H * 2 ^ e + switchAt e x))
     where
-      go : (b : Bool) → cond b (H * 2 ^ suc e + partner e x) (H * 2 ^ suc e + x) ≡ H * 2 ^ suc e + cond b (partner e x) x
+      go : (b : Bool) → cond b (H * 2 ^ suc e + partnerAt e x) (H * 2 ^ suc e + x) ≡ H * 2 ^ suc e + cond b (partnerAt e x) x
       go true = refl
       go false = refl
 
@@ -122,14 +122,14 @@ inverse-within zero h c x = unfold inverse in refl
 inverse-within (suc k) h c x = inverse-weight (suc k) k (omega arith) h c x
 
 -- the stage that joins the halves
-switch-top : (h : Bool) (n x : ℕ) → x < 2 ^ n → switchOf n (weight h n + x) ≡ x
-unfolding switchOf
+switch-top : (h : Bool) (n x : ℕ) → x < 2 ^ n → switchAt n (weight h n + x) ≡ x
+unfolding switchAt
 switch-top h n x l =
     let q : (weight h n + x) / 2 ^ suc n ≡ 0 = div-eq-of-lt (omega (arith, weight-le h n)) in
     omega (arith, ap (λ (y : ℕ). y * 2 ^ n) q, weight-rest h n x l)
 
-partner-top : (h : Bool) (n x : ℕ) → x < 2 ^ n → partner n (weight h n + x) ≡ weight (not h) n + x
-unfolding partner weight
+partner-top : (h : Bool) (n x : ℕ) → x < 2 ^ n → partnerAt n (weight h n + x) ≡ weight (not h) n + x
+unfolding partnerAt weight
 partner-top false n x l =
     let q : (0 + x) / 2 ^ n % 2 ≡ 0 = ap (λ (y : ℕ). y % 2) (div-eq-of-lt (omega arith)) in
     ap (λ (y : ℕ). cond (eqb y 0) (0 + x + 2 ^ n) (0 + x - 2 ^ n)) q ∙ omega arith
@@ -141,8 +141,8 @@ pub through-top :
     (n : ℕ) (c : ℕ → Bool) (f : Place n → Bool)
     → ((q : Place n) → c (num n q) ≡ f q)
     → (p : Place (suc n))
-    → through n c (num (suc n) p) ≡ num (suc n) (stage f p)
-unfolding through num stage side
+    → through n c (num (suc n) p) ≡ num (suc n) (sent f p)
+unfolding through num sent side
 through-top n c f is p =
     ap₂
     (λ (b : Bool) (y : ℕ). cond b y (weight (p .0) n + num n (p .1)))

@@ -1,4 +1,4 @@
--- Laws of the loop that sets a first stage: from each unset switch in permutation, walk round its loop and set what it meets.
+-- Laws of the loop that sets a first stage: from each unset switch in order, walk round its loop and set what it meets.
 -- Assumes nothing.
 use mathlib.Core.Path.{_≡_, refl, sym, ap, _∙_}
 use mathlib.Core.Logic.{_⊎_, inl, inr, _≢_}
@@ -6,8 +6,8 @@ use mathlib.Core.Bool.{Bool, true, false, not}
 use Prim.Native.Nat.{ℕ, zero, suc, _+_, _-_, _≤_, _<_}
 use native.Mathlib.Decide.{decLt, ℕ-discrete}
 use native.Mathlib.Omega.{arith}
-use Rattle.routing.specs.Loop.{Maps, IsPermutation, xor, pass, flip, side, turn, turns}
-use Rattle.routing.specs.Marks.{Mark, unset, set, Marks, Given, Right, Marked}
+use Rattle.routing.specs.Loop.{Maps, IsPermutation, xor, pass, flip, side, loopTurn, loopTurns}
+use Rattle.routing.specs.Marks.{Mark, unset, set, Marks, Given, Right, SetTo}
 use Rattle.routing.proofs.Stage.{flip-switch, same-switch}
 use Rattle.routing.proofs.Loop.{Numbered, turn-back, turns-suc, side-turns, same-on-loop, Period, period, reach-sym, return, repeats}
 use Rattle.routing.proofs.First.{leastOf, least-is, stageOne, first-valid, passes-if-least}
@@ -22,8 +22,8 @@ given-or-unset M s = go (M s) refl
 pub given-not-unset : {S : Type 0} (M : Marks S) (s : S) → Given M s → M s ≡ unset → ⊥
 given-not-unset M s g e = let z : _≡_ {A = ℕ} 0 1 = cc (g .is, e) in omega arith
 
-pub carry : {S : Type 0} {M : Marks S} {s t : S} → s ≡ t → Given M t → Given M s
-carry e g = rw e g
+pub given-along : {S : Type 0} {M : Marks S} {s t : S} → s ≡ t → Given M t → Given M s
+given-along e g = rw e g
 
 xor-true : (a b : Bool) → xor a b ≡ true → a ≡ not b
 xor-true false true e = refl
@@ -39,14 +39,14 @@ module _ {S : Type 0} (K : Numbered S) (m : Maps (Bool × S)) (perm : IsPermutat
       go (yes e) = yes (K .injective s t e)
       go (no ne) = no (λ e. ne (ap (K .index) e))
 
-  turn-back-switch : (x : Bool × S) → turn m (flip (turn m x)) .1 ≡ x .1
+  turn-back-switch : (x : Bool × S) → loopTurn m (flip (loopTurn m x)) .1 ≡ x .1
   turn-back-switch x = ap (λ (y : Bool × S). y .1) (turn-back m perm x) ∙ flip-switch x
 
   -- between two loops: all switches below k are set, what is set is right, and whole loops are set
   pub record Settled (k : ℕ) (M : Marks S) : Type 0 where
     pub right : Right (stageOne K m perm) M
     pub below : (s : S) → K .index s < k → Given M s
-    pub closed : (x : Bool × S) → Given M (x .1) → Given M (turn m x .1)
+    pub closed : (x : Bool × S) → Given M (x .1) → Given M (loopTurn m x .1)
 
   pub settled-start : (M : Marks S) → ((s : S) → M s ≡ unset) → Settled 0 M
   settled-start M none =
@@ -74,10 +74,10 @@ module _ {S : Type 0} (K : Numbered S) (m : Maps (Bool × S)) (perm : IsPermutat
       let g = st .below s (K .small s) in
       g .is ∙ ap set (sym (st .right s (g .value) (g .is)))
 
-  closed-turns : {k : ℕ} {M : Marks S} → Settled k M → (j : ℕ) (x : Bool × S) → Given M (x .1) → Given M (turns m j x .1)
-  unfolding turns
+  closed-turns : {k : ℕ} {M : Marks S} → Settled k M → (j : ℕ) (x : Bool × S) → Given M (x .1) → Given M (loopTurns m j x .1)
+  unfolding loopTurns
   closed-turns st zero x g = g
-  closed-turns st (suc j) x g = closed-turns st j (turn m x) (st .closed x g)
+  closed-turns st (suc j) x g = closed-turns st j (loopTurn m x) (st .closed x g)
 
   -- an unset switch with all below it set is the least of its loop
   pub fresh-passes : {M : Marks S} (s : S) → Settled (K .index s) M → M s ≡ unset → stageOne K m perm s ≡ pass
@@ -92,7 +92,7 @@ module _ {S : Type 0} (K : Numbered S) (m : Maps (Bool × S)) (perm : IsPermutat
 
   -- the walk from the high bit of a start s: j turns done
   abbrev pub stand : S → ℕ → Bool × S
-  stand s j = turns m j (true, s)
+  stand s j = loopTurns m j (true, s)
 
   pub record Walk (M₀ : Marks S) (s : S) (j : ℕ) (M : Marks S) : Type 0 where
     pub before : Settled (K .index s) M₀
@@ -104,7 +104,7 @@ module _ {S : Type 0} (K : Numbered S) (m : Maps (Bool × S)) (perm : IsPermutat
     pub unclosed : (i : ℕ) → i < j → stand s (suc i) ≢ (true, s)
 
   -- what a store does to the facts of a walk
-  module _ {M M′ : Marks S} {s : S} {v : Bool} (d : Marked M s v M′) where
+  module _ {M M′ : Marks S} {s : S} {v : Bool} (d : SetTo M s v M′) where
     pub given-here : Given M′ s
     given-here = record { value = v; is = d .here }
 
@@ -133,9 +133,9 @@ module _ {S : Type 0} (K : Numbered S) (m : Maps (Bool × S)) (perm : IsPermutat
       {M M′ : Marks S} (s : S)
       → Settled (K .index s) M
       → M s ≡ unset
-      → Marked M s pass M′
+      → SetTo M s pass M′
       → Walk M s 0 M′
-  unfolding turns
+  unfolding loopTurns
   walk-start {M} {M′} s st none d =
       record {
         before = st;
@@ -181,7 +181,7 @@ module _ {S : Type 0} (K : Numbered S) (m : Maps (Bool × S)) (perm : IsPermutat
 
     -- the next switch is the start, or is unset
     pub walk-next : stand s (suc j) .1 ≢ s → M (stand s (suc j) .1) ≡ unset
-    unfolding turns
+    unfolding loopTurns
     walk-next ne = go (given-or-unset M (stand s (suc j) .1))
       where
         go : Given M (stand s (suc j) .1) ⊎ (M (stand s (suc j) .1) ≡ unset) → M (stand s (suc j) .1) ≡ unset
@@ -205,7 +205,7 @@ module _ {S : Type 0} (K : Numbered S) (m : Maps (Bool × S)) (perm : IsPermutat
     pub walk-step :
         {M′ : Marks S}
         → stand s (suc j) .1 ≢ s
-        → Marked M (stand s (suc j) .1) (not (stand s (suc j) .0)) M′
+        → SetTo M (stand s (suc j) .1) (not (stand s (suc j) .0)) M′
         → Walk M₀ s (suc j) M′
     walk-step {M′} ne d =
         record {
@@ -241,7 +241,7 @@ module _ {S : Type 0} (K : Numbered S) (m : Maps (Bool × S)) (perm : IsPermutat
         apart i h (no n) = λ e. let q : i ≡ j = omega arith in ne (rw (← q) (ap (λ (y : Bool × S). y .1) e))
 
     pub walk-end : stand s (suc j) .1 ≡ s → Settled (suc (K .index s)) M
-    unfolding turns
+    unfolding loopTurns
     walk-end back =
         record {
           right = w .right;
@@ -249,7 +249,7 @@ module _ {S : Type 0} (K : Numbered S) (m : Maps (Bool × S)) (perm : IsPermutat
           closed = λ x g. onward x (w .only (x .1) g);
         }
       where
-        round : turn m (stand s j) ≡ (true, s)
+        round : loopTurn m (stand s j) ≡ (true, s)
         round = sym (turns-suc m perm j (true, s)) ∙ same-on-loop m perm (suc j) (true, s) back
 
         under : (t : S) → Dec (K .index t < K .index s) → K .index t < suc (K .index s) → Given M t
@@ -259,30 +259,30 @@ module _ {S : Type 0} (K : Numbered S) (m : Maps (Bool × S)) (perm : IsPermutat
             rw (K .injective s t q) at (w .walked 0 (omega arith))
 
         -- from a bit of the walk on, and from the other bit of its switch back
-        ahead : (i : ℕ) → i ≤ j → Dec (i < j) → Given M (turn m (stand s i) .1)
+        ahead : (i : ℕ) → i ≤ j → Dec (i < j) → Given M (loopTurn m (stand s i) .1)
         ahead i h (yes l) = rw (turns-suc m perm i (true, s)) at (w .walked (suc i) l)
         ahead i h (no n) =
             let q : i ≡ j = omega arith in
             rw (q, round) (w .walked 0 (omega arith))
 
-        behind : (i : ℕ) → i ≤ j → Given M (turn m (flip (stand s i)) .1)
+        behind : (i : ℕ) → i ≤ j → Given M (loopTurn m (flip (stand s i)) .1)
         behind zero h =
-            carry
-            (ap (λ (y : Bool × S). turn m (flip y) .1) (sym round) ∙ turn-back-switch (stand s j))
+            given-along
+            (ap (λ (y : Bool × S). loopTurn m (flip y) .1) (sym round) ∙ turn-back-switch (stand s j))
             (w .walked j (omega arith))
         behind (suc i) h =
-            carry
-            (ap (λ (y : Bool × S). turn m (flip y) .1) (turns-suc m perm i (true, s))
+            given-along
+            (ap (λ (y : Bool × S). loopTurn m (flip y) .1) (turns-suc m perm i (true, s))
             ∙ turn-back-switch (stand s i))
             (w .walked i (omega arith))
 
         onward :
             (x : Bool × S)
             → Given M₀ (x .1) ⊎ ((i : ℕ) × (i ≤ j) × (stand s i .1 ≡ x .1))
-            → Given M (turn m x .1)
-        onward x (inl g) = w .kept (turn m x .1) (w .before .closed x g)
+            → Given M (loopTurn m x .1)
+        onward x (inl g) = w .kept (loopTurn m x .1) (w .before .closed x g)
         onward x (inr (i, h, e)) = pick (same-switch x (stand s i) (sym e))
           where
-            pick : (x ≡ stand s i) ⊎ (x ≡ flip (stand s i)) → Given M (turn m x .1)
+            pick : (x ≡ stand s i) ⊎ (x ≡ flip (stand s i)) → Given M (loopTurn m x .1)
             pick (inl p) = rw p (ahead i h (decLt i j))
             pick (inr p) = rw p (behind i h)

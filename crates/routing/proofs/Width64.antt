@@ -4,9 +4,9 @@ use mathlib.Core.Path.{_≡_, refl}
 use mathlib.Core.List.{List, [], _∷_}
 use Prim.Native.Nat.{ℕ, zero, suc}
 use Rattle.routing.specs.Place.{weight, num, place, at, tab}
-use Rattle.routing.specs.Loop.{flip, side, stage, turn, least, firstStage, lastStage, between}
+use Rattle.routing.specs.Loop.{flip, side, sent, loopTurn, least, firstStage, lastStage, between}
 use Rattle.routing.specs.Net.{half, part, join, firstNet}
-use Rattle.routing.specs.Stages.{switchOf, partner, through, butterfly, inverse, network, control, flat}
+use Rattle.routing.specs.Stages.{switchAt, partnerAt, through, butterfly, inverse, network, treeControl, flat}
 use Rattle.routing.specs.FirstControls.{onPlaces, firstControls}
 use Rattle.routing.specs.Lists.{find, controlsOf, wordOf, controlIn, butterflyWords, inverseWords, butterflyFrom, inverseFrom, Words, wordsOf, fromWords, firstWords}
 
@@ -28,5 +28,5 @@ record Computes : Type 0 where
   row64-brings : brought 6 (firstWords 6 entries64) 0 64 ≡ entries64
 
 computes : Computes
-unfolding weight num place at tab flip side stage turn least firstStage lastStage between half part join firstNet switchOf partner through butterfly inverse network control flat onPlaces firstControls find controlsOf wordOf controlIn butterflyWords inverseWords butterflyFrom inverseFrom wordsOf firstWords brought entries64
+unfolding weight num place at tab flip side sent loopTurn least firstStage lastStage between half part join firstNet switchAt partnerAt through butterfly inverse network treeControl flat onPlaces firstControls find controlsOf wordOf controlIn butterflyWords inverseWords butterflyFrom inverseFrom wordsOf firstWords brought entries64
 computes = record { row64 = refl; row64-brings = refl }

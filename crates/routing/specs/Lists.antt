@@ -8,7 +8,7 @@ use lib.Dec.{eqb}
 use lib.ListN.{length, getD}
 use Rattle.routing.specs.FirstControls.{firstControls}
 use Rattle.routing.specs.Alone.{butterflyControls, inverseControls, butterflyTest, inverseTest}
-use Rattle.routing.specs.Stages.{Butterfly, Inverse, Controls}
+use Rattle.routing.specs.Stages.{Butterfly, Inverse, StageControls}
 
 -- where x stands in a list
 unfoldable pub find : ℕ → List ℕ → ℕ
@@ -25,7 +25,7 @@ pub record ListPermutes (w : ℕ) (entries : List ℕ) : Type 0 where
   pub small : (p : ℕ) → p < w → entry entries p < w
   pub once : (p q : ℕ) → p < w → q < w → entry entries p ≡ entry entries q → p ≡ q
 
-unfoldable pub controlsOf : ℕ → List ℕ → Controls
+unfoldable pub controlsOf : ℕ → List ℕ → StageControls
 controlsOf n entries = firstControls n (entry entries) (λ x. find x entries)
 
 -- a stage as a word: bit s is one where switch s passes
@@ -58,14 +58,14 @@ pub record Words : Type 0 where
   pub butterfly : List ℕ
   pub inverse : List ℕ
 
-unfoldable pub wordsOf : ℕ → Controls → Words
+unfoldable pub wordsOf : ℕ → StageControls → Words
 wordsOf n C =
     record {
       butterfly = butterflyWords (2 ^ n / 2) n (λ e. C (Butterfly e));
       inverse = inverseWords (2 ^ n / 2) 0 n (λ e. C (Inverse e));
     }
 
-abbrev pub fromWords : ℕ → Words → Controls
+abbrev pub fromWords : ℕ → Words → StageControls
 fromWords n w (Butterfly e) = butterflyFrom n (w .butterfly) e
 fromWords n w (Inverse e) = inverseFrom (w .inverse) e
 

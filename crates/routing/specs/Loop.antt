@@ -35,8 +35,8 @@ module _ {S : Type 0} where
   side f x = xor (f (x .1)) (x .0)
 
   -- a stage: it sends each bit to its side, at its own switch
-  unfoldable pub stage : (S → Bool) → Bool × S → Bool × S
-  stage f x = (side f x, x .1)
+  unfoldable pub sent : (S → Bool) → Bool × S → Bool × S
+  sent f x = (side f x, x .1)
 
   -- the bits that meet in a last switch come from different sides
   abbrev pub Valid : Maps (Bool × S) → (S → Bool) → Type 0
@@ -44,18 +44,18 @@ module _ {S : Type 0} where
 
   -- from a bit to its last switch, to the other bit there, to that one's first switch, to the other bit there:
   -- it must come to the side of the bit we left
-  unfoldable pub turn : Maps (Bool × S) → Bool × S → Bool × S
-  turn m x = flip (m .to (flip (m .from x)))
+  unfoldable pub loopTurn : Maps (Bool × S) → Bool × S → Bool × S
+  loopTurn m x = flip (m .to (flip (m .from x)))
 
-  unfoldable pub turns : Maps (Bool × S) → ℕ → Bool × S → Bool × S
-  turns m zero x = x
-  turns m (suc k) x = turns m k (turn m x)
+  unfoldable pub loopTurns : Maps (Bool × S) → ℕ → Bool × S → Bool × S
+  loopTurns m zero x = x
+  loopTurns m (suc k) x = loopTurns m k (loopTurn m x)
 
   -- the bit of the least switch among x and its next k turns
   unfoldable pub least : (S → ℕ) → Maps (Bool × S) → ℕ → Bool × S → Bool × S
   least index m zero x = x
   least index m (suc k) x =
-      let y = least index m k (turn m x) in
+      let y = least index m k (loopTurn m x) in
       cond (leb (index (x .1)) (index (y .1))) x y
 
   -- The first of the first stages: a loop's least switch passes, which sets its other switches.
@@ -70,6 +70,6 @@ module _ {S : Type 0} where
   -- what is left between the two stages
   unfoldable pub between : Maps (Bool × S) → (S → Bool) → (S → Bool) → Maps (Bool × S)
   between m f g = record {
-    to = λ p. stage f (m .to (stage g p));
-    from = λ x. stage g (m .from (stage f x));
+    to = λ p. sent f (m .to (sent g p));
+    from = λ x. sent g (m .from (sent f x));
   }

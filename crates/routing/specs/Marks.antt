@@ -22,7 +22,7 @@ abbrev pub Right : {S : Type 0} → (S → Bool) → Marks S → Type 0
 Right f M = (s : _) (v : Bool) → M s ≡ set v → f s ≡ v
 
 -- M′ is M with switch s set to v
-pub record Marked {S : Type 0} (M : Marks S) (s : S) (v : Bool) (M′ : Marks S) : Type 0 where
+pub record SetTo {S : Type 0} (M : Marks S) (s : S) (v : Bool) (M′ : Marks S) : Type 0 where
   pub here : M′ s ≡ set v
   pub elsewhere : (t : S) → t ≢ s → M′ t ≡ M t
 

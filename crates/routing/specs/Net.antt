@@ -4,7 +4,7 @@ use mathlib.Core.Path.{_≡_}
 use mathlib.Core.Bool.{Bool, true, false, cond}
 use Prim.Native.Nat.{ℕ, zero, suc, _^_}
 use Rattle.routing.specs.Place.{Place, num, Table, at, tab}
-use Rattle.routing.specs.Loop.{Maps, stage, firstStage, lastStage, between}
+use Rattle.routing.specs.Loop.{Maps, sent, firstStage, lastStage, between}
 
 -- the controls of one network: those of the stage that joins the halves, and those of each half
 abbrev pub ControlTree : ℕ → Type 0
@@ -17,12 +17,12 @@ half n F h = cond h (F .upper) (F .lower)
 -- the bit that comes to place p: the butterfly's outer stage is its first, the inverse's is its last
 unfoldable pub butterflySource : (n : ℕ) → ControlTree n → Place n → Place n
 butterflySource zero F p = p
-butterflySource (suc n) F p = stage (at n (F .outer)) (p .0, butterflySource n (half n F (p .0)) (p .1))
+butterflySource (suc n) F p = sent (at n (F .outer)) (p .0, butterflySource n (half n F (p .0)) (p .1))
 
 unfoldable pub inverseSource : (n : ℕ) → ControlTree n → Place n → Place n
 inverseSource zero F p = p
 inverseSource (suc n) F p =
-    let q = stage (at n (F .outer)) p in
+    let q = sent (at n (F .outer)) p in
     (q .0, inverseSource n (half n F (q .0)) (q .1))
 
 -- butterfly, then inverse
@@ -30,11 +30,11 @@ pub record Net (n : ℕ) : Type 0 where
   pub butterfly : ControlTree n
   pub inverse : ControlTree n
 
-abbrev pub source : (n : ℕ) → Net n → Place n → Place n
-source n N p = butterflySource n (N .butterfly) (inverseSource n (N .inverse) p)
+abbrev pub netSource : (n : ℕ) → Net n → Place n → Place n
+netSource n N p = butterflySource n (N .butterfly) (inverseSource n (N .inverse) p)
 
-abbrev pub Realises : (n : ℕ) → Net n → Maps (Place n) → Type 0
-Realises n N m = (p : Place n) → source n N p ≡ m .to p
+abbrev pub NetRealises : (n : ℕ) → Net n → Maps (Place n) → Type 0
+NetRealises n N m = (p : Place n) → netSource n N p ≡ m .to p
 
 -- the part in half h of maps that keep each bit in its half, as tables
 unfoldable pub part : (n : ℕ) → Maps (Place (suc n)) → Bool → Maps (Place n)

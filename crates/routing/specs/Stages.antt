@@ -10,15 +10,15 @@ use Rattle.routing.specs.Loop.{pass, swap}
 use Rattle.routing.specs.Net.{ControlTree, half, Net}
 
 -- At distance d = 2^e, switch j*d + t joins bits 2*j*d + t and 2*j*d + t + d.
-unfoldable pub switchOf : ℕ → ℕ → ℕ
-switchOf e p = p / 2 ^ suc e * 2 ^ e + p % 2 ^ e
+unfoldable pub switchAt : ℕ → ℕ → ℕ
+switchAt e p = p / 2 ^ suc e * 2 ^ e + p % 2 ^ e
 
-unfoldable pub partner : ℕ → ℕ → ℕ
-partner e p = cond (eqb (p / 2 ^ e % 2) 0) (p + 2 ^ e) (p - 2 ^ e)
+unfoldable pub partnerAt : ℕ → ℕ → ℕ
+partnerAt e p = cond (eqb (p / 2 ^ e % 2) 0) (p + 2 ^ e) (p - 2 ^ e)
 
 -- the bit that comes to place p through a stage of distance 2^e; c says which switches swap
 unfoldable pub through : ℕ → (ℕ → Bool) → ℕ → ℕ
-through e c p = cond (c (switchOf e p)) (partner e p) p
+through e c p = cond (c (switchAt e p)) (partnerAt e p) p
 
 -- The n stages of a butterfly, wide ones first, and of an inverse, narrow ones first: the bit that comes to place p.
 -- c e is the stage of distance 2^e.
@@ -39,10 +39,10 @@ exponent (Butterfly e) = e
 exponent (Inverse e) = e
 
 -- does switch s of a stage swap?
-abbrev pub Controls : Type 0
-Controls = Stage → ℕ → Bool
+abbrev pub StageControls : Type 0
+StageControls = Stage → ℕ → Bool
 
-unfoldable pub network : ℕ → Controls → ℕ → ℕ
+unfoldable pub network : ℕ → StageControls → ℕ → ℕ
 network n C p = butterfly n (λ e. C (Butterfly e)) (inverse n (λ e. C (Inverse e)) p)
 
 -- a network of 2^n places has the stages of exponent e below n, and in each the switches s below 2^n / 2
@@ -62,17 +62,17 @@ Earlier (Inverse d) (Butterfly e) = ⊥
 Earlier (Inverse d) (Inverse e) = d < e
 
 -- switch s of stage c comes before switch t of stage d
-abbrev pub Before : Stage → ℕ → Stage → ℕ → Type 0
-Before c s d t = Earlier c d ⊎ ((c ≡ d) × (s < t))
+abbrev pub SwitchBefore : Stage → ℕ → Stage → ℕ → Type 0
+SwitchBefore c s d t = Earlier c d ⊎ ((c ≡ d) × (s < t))
 
-abbrev pub AgreeBefore : ℕ → Controls → Controls → Stage → ℕ → Type 0
-AgreeBefore n C D c s = (d : Stage) (t : ℕ) → InRange n (exponent d) t → Before d t c s → C d t ≡ D d t
+abbrev pub AgreeBefore : ℕ → StageControls → StageControls → Stage → ℕ → Type 0
+AgreeBefore n C D c s = (d : Stage) (t : ℕ) → InRange n (exponent d) t → SwitchBefore d t c s → C d t ≡ D d t
 
-abbrev pub Agree : ℕ → Controls → Controls → Type 0
+abbrev pub Agree : ℕ → StageControls → StageControls → Type 0
 Agree n C D = (c : Stage) (s : ℕ) → InRange n (exponent c) s → C c s ≡ D c s
 
 -- D comes later than C: where they first differ, C passes and D swaps
-pub record Later (n : ℕ) (C D : Controls) : Type 0 where
+pub record ComesLater (n : ℕ) (C D : StageControls) : Type 0 where
   pub at-stage : Stage
   pub switch : ℕ
   pub inside : InRange n (exponent at-stage) switch
@@ -81,21 +81,21 @@ pub record Later (n : ℕ) (C D : Controls) : Type 0 where
   pub swaps : D at-stage switch ≡ swap
 
 -- C passes or agrees with D wherever they agree before
-abbrev pub Leads : ℕ → Controls → Controls → Type 0
+abbrev pub Leads : ℕ → StageControls → StageControls → Type 0
 Leads n C D =
     (c : Stage) (s : ℕ) → InRange n (exponent c) s → AgreeBefore n C D c s → (C c s ≡ pass) ⊎ (C c s ≡ D c s)
 
 -- the stages of one network over the whole width: that of distance 2^e, at switch s
-unfoldable pub control : (n : ℕ) → ControlTree (suc n) → ℕ → Place n → Bool
-control zero F e q = at zero (F .outer) q
-control (suc n) F e q =
-    let inner = control n (half (suc n) F (q .0)) e (q .1) in
+unfoldable pub treeControl : (n : ℕ) → ControlTree (suc n) → ℕ → Place n → Bool
+treeControl zero F e q = at zero (F .outer) q
+treeControl (suc n) F e q =
+    let inner = treeControl n (half (suc n) F (q .0)) e (q .1) in
     cond (eqb e (suc n)) (at (suc n) (F .outer) q) inner
 
 unfoldable pub flat : (n : ℕ) → ControlTree n → ℕ → ℕ → Bool
 flat zero F e s = pass
-flat (suc n) F e s = control n F e (place n s)
+flat (suc n) F e s = treeControl n F e (place n s)
 
-abbrev pub controls : (n : ℕ) → Net n → Controls
-controls n N (Butterfly e) = flat n (N .butterfly) e
-controls n N (Inverse e) = flat n (N .inverse) e
+abbrev pub netControls : (n : ℕ) → Net n → StageControls
+netControls n N (Butterfly e) = flat n (N .butterfly) e
+netControls n N (Inverse e) = flat n (N .inverse) e

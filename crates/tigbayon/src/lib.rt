@@ -7,7 +7,7 @@ ghost use mathlib.Core.Bool.{true, false};
 ghost use mathlib.Core.List.{reverse};
 ghost use Rattle.network.specs.Stage.{falling, rising, butterflyOf, inverseOf};
 ghost use Rattle.network.specs.Word.{exchangesOf};
-ghost use Rattle.network.specs.Calls.{carryAnswer, prepareAnswer, decodeAnswer};
+ghost use Rattle.network.specs.Calls.{networkAnswer, prepareAnswer, decodeAnswer};
 ghost use Rattle.routing.specs.Lists.{butterflyFits, butterflyAlone, inverseFits, inverseAlone};
 ghost use Rattle.unit.specs.Run.{ranAt, runOf};
 ghost use Rattle.unit.specs.Calls.{operated, operateOf, readOf, written, writeOf};
@@ -38,7 +38,7 @@ pub extern "C" fn tb_group(width: u32, mask: u64, word: u64) -> gather::Gathered
 
 #[no_mangle]
 pub extern "C" fn tb_butterfly(width: u32, stages: &[u32; 6], word: u64) -> network::Carried
-    ensures { λ r. ⌜ r ≡ carryAnswer butterflyOf width (record { stages = now (stages .entry) }) word ⌝ }
+    ensures { λ r. ⌜ r ≡ networkAnswer butterflyOf width (record { stages = now (stages .entry) }) word ⌝ }
 {
     let stages = *stages;
     network::butterfly(width, network::Controls { stages }, word)
@@ -46,7 +46,7 @@ pub extern "C" fn tb_butterfly(width: u32, stages: &[u32; 6], word: u64) -> netw
 
 #[no_mangle]
 pub extern "C" fn tb_inverse(width: u32, stages: &[u32; 6], word: u64) -> network::Carried
-    ensures { λ r. ⌜ r ≡ carryAnswer inverseOf width (record { stages = now (stages .entry) }) word ⌝ }
+    ensures { λ r. ⌜ r ≡ networkAnswer inverseOf width (record { stages = now (stages .entry) }) word ⌝ }
 {
     let stages = *stages;
     network::inverse(width, network::Controls { stages }, word)
@@ -72,14 +72,14 @@ pub extern "C" fn tb_prepare_inverse(width: u32, stages: &[u32; 6]) -> network::
 pub extern "C" fn tb_butterfly_prepared(swaps: &[u64; 6], word: u64) -> u64
     ensures { λ r. ⌜ r ≡ exchangesOf (falling 6) (now (swaps .entry)) word ⌝ }
 {
-    network::fall(*swaps, word)
+    network::butterfly_prepared(*swaps, word)
 }
 
 #[no_mangle]
 pub extern "C" fn tb_inverse_prepared(swaps: &[u64; 6], word: u64) -> u64
     ensures { λ r. ⌜ r ≡ exchangesOf (rising 6) (reverse (now (swaps .entry))) word ⌝ }
 {
-    network::rise(*swaps, word)
+    network::inverse_prepared(*swaps, word)
 }
 
 #[no_mangle]

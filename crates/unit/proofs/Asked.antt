@@ -8,7 +8,7 @@ use borrow.Author.Tests.{ne-eqb}
 use Rattle.bits.specs.Refusal.{lowest, IsLowest}
 use Rattle.bits.proofs.Refusals.{lowest-law}
 use Rattle.unit.specs.declared.Bank.{Bank}
-use Rattle.unit.specs.Operation.{entry, isKind, usedOf, areRegisters, operationConditions, operationRefusal, loadOf, stepOf}
+use Rattle.unit.specs.Operation.{tableEntry, isKind, usedOf, areRegisters, operationConditions, operationRefusal, loadOf, stepOf}
 use Rattle.unit.specs.Calls.{numberConditions, numberRefusal}
 
 pub and-true : (b : Bool) → (b && true) ≡ b
@@ -20,14 +20,14 @@ abbrev pub Others : {A : Type 0} → Type 0 → ℕ → List (ℕ × A) → Type
 Others P n [] = P
 Others P n (e ∷ es) = Others (P × (n ≡ e .0 → ⊥)) n es
 
-others : {A P : Type 0} (n : ℕ) (es : List (ℕ × A)) (d : A) → Others P n es → (entry n es d ≡ d) × P
+others : {A P : Type 0} (n : ℕ) (es : List (ℕ × A)) (d : A) → Others P n es → (tableEntry n es d ≡ d) × P
 others n [] d o = (refl, o)
 others {A} {P} n (e ∷ es) d o =
     let r = others {P = P × (n ≡ e .0 → ⊥)} n es d o in
-    (ap (λ (b : Bool). cond b (e .1) (entry n es d)) (ne-eqb n (e .0) (r .1 .1)) ∙ r .0, r .1 .0)
+    (ap (λ (b : Bool). cond b (e .1) (tableEntry n es d)) (ne-eqb n (e .0) (r .1 .1)) ∙ r .0, r .1 .0)
 
 -- then the table has no entry there
-pub entry-other : {A : Type 0} (n : ℕ) (es : List (ℕ × A)) (d : A) → Others Unit n es → d ≡ entry n es d
+pub entry-other : {A : Type 0} (n : ℕ) (es : List (ℕ × A)) (d : A) → Others Unit n es → d ≡ tableEntry n es d
 entry-other n es d o = sym (others n es d o .0)
 
 -- by the kind that a test found

@@ -1,6 +1,6 @@
 pub mod Held
 pub mod Width
 pub mod Asked
-pub mod Lists
+pub mod OperationLists
 pub mod Runs
 pub mod Theorems

@@ -12,7 +12,7 @@ use lib.Seq.{take-length}
 use borrow.Author.Tests.{eq-eqb, le-ltb, not-false}
 use Rattle.network.specs.Stage.{falling, butterflyOf, inverseOf}
 use Rattle.network.specs.Decoder.{decodeOf, decodeInverseOf}
-use Rattle.network.proofs.Routing.{column-lt, mask-routing-gather, mask-routing-scatter}
+use Rattle.network.proofs.MaskRouting.{decoded-stage-lt, mask-routing-gather, mask-routing-scatter}
 use Rattle.unit.specs.declared.Bank.{Bank}
 use Rattle.unit.specs.declared.Ran.{Ran}
 use Rattle.unit.specs.Bank.{register, stagesOf, packedOf}
@@ -21,7 +21,7 @@ use Rattle.unit.specs.Calls.{operateOf}
 use Rattle.unit.specs.Run.{Operation, operationsOf, anyKind, anyRegister, stepsOf, sumOf, ranOf, endedOf, outcomeOf, refusedOf, runRefusal, runOf}
 use Rattle.unit.proofs.Asked.{operation-refusal-by}
 use Rattle.unit.proofs.Held.{stages-packed}
-use Rattle.unit.proofs.Lists.{run-accepts}
+use Rattle.unit.proofs.OperationLists.{run-accepts}
 use Rattle.unit.proofs.Runs.{ran-fits, ran-stops}
 
 -- A run within its budget
@@ -116,11 +116,11 @@ run-in-turn k bytes budget e h =
 module _ (m : ℕ) where
   held : stagesOf (packedOf (decodeOf 6 m)) ≡ decodeOf 6 m
   unfolding decodeOf falling
-  held = stages-packed _ _ _ _ _ _ (column-lt 64 m 32) (column-lt 64 m 8) (column-lt 64 m 2)
+  held = stages-packed _ _ _ _ _ _ (decoded-stage-lt 64 m 32) (decoded-stage-lt 64 m 8) (decoded-stage-lt 64 m 2)
 
   held-inverse : stagesOf (packedOf (decodeInverseOf 6 m)) ≡ decodeInverseOf 6 m
   unfolding decodeInverseOf decodeOf falling
-  held-inverse = stages-packed _ _ _ _ _ _ (column-lt 64 m 1) (column-lt 64 m 4) (column-lt 64 m 16)
+  held-inverse = stages-packed _ _ _ _ _ _ (decoded-stage-lt 64 m 1) (decoded-stage-lt 64 m 4) (decoded-stage-lt 64 m 16)
 
 module _ (k : Bank) (a b r1 r2 r3 : ℕ) (h : register k r3 < 2 ^ 64) where
   abbrev mask : ℕ

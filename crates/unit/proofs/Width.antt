@@ -4,7 +4,7 @@ use Prim.Native.Nat.{ℕ, _-_, _^_, _<_}
 use borrow.Author.Tests.{lt-ltb}
 use Rattle.gather.specs.declared.Gathered.{Gathered}
 use Rattle.gather.specs.Gather.{answerOf}
-use Rattle.gather.proofs.Calls.{refusal-by, carried-out}
+use Rattle.gather.proofs.MaskAnswers.{refusal-by, carried-out}
 
 pub by-mask-64 : (f : ℕ → ℕ → ℕ → ℕ) (m x : ℕ) → m < 2 ^ 64 → x < 2 ^ 64 → {r : Gathered} → r ≡ answerOf f 64 m x → r .word ≡ f 64 m x
 by-mask-64 f m x h l e =

@@ -20,9 +20,9 @@ unfoldable pub cyclesOf : ℕ → ℕ
 cyclesOf kind = getD figures kind 0
 
 -- the entry at a number in a table, or another value where it has none
-abbrev pub entry : {A : Type 0} → ℕ → List (ℕ × A) → A → A
-entry n [] other = other
-entry n (e ∷ es) other = cond (eqb n (e .0)) (e .1) (entry n es other)
+abbrev pub tableEntry : {A : Type 0} → ℕ → List (ℕ × A) → A → A
+tableEntry n [] other = other
+tableEntry n (e ∷ es) other = cond (eqb n (e .0)) (e .1) (tableEntry n es other)
 
 -- the kinds of the table are 1 to 10; in kind 5, r1 says what is loaded, 1 to 4
 unfoldable pub isKind : ℕ → ℕ → Bool
@@ -38,7 +38,7 @@ uses r1 r2 r3 =
     ∷ (2, r1 ∷ r2 ∷ [])
     ∷ (3, r1 ∷ r2 ∷ r3 ∷ [])
     ∷ (4, r1 ∷ r2 ∷ r3 ∷ [])
-    ∷ (5, entry r1 (loadUses r2 r3) [])
+    ∷ (5, tableEntry r1 (loadUses r2 r3) [])
     ∷ (6, r1 ∷ r2 ∷ r3 ∷ [])
     ∷ (7, r1 ∷ r2 ∷ r3 ∷ [])
     ∷ (8, r3 ∷ [])
@@ -47,7 +47,7 @@ uses r1 r2 r3 =
     ∷ []
 
 unfoldable pub usedOf : ℕ → ℕ → ℕ → ℕ → List ℕ
-usedOf kind r1 r2 r3 = entry kind (uses r1 r2 r3) []
+usedOf kind r1 r2 r3 = tableEntry kind (uses r1 r2 r3) []
 
 -- every number is that of a general register, 0 to 15
 abbrev pub areRegisters : List ℕ → Bool
@@ -71,7 +71,7 @@ loads k x y =
     ∷ []
 
 unfoldable pub loadOf : Bank → ℕ → ℕ → ℕ → Bank
-loadOf k r1 x y = entry r1 (loads k x y) k
+loadOf k r1 x y = tableEntry r1 (loads k x y) k
 
 -- The table, by kind: the bank k after an operation. Operands are those of k, before the result is written.
 abbrev pub steps : Bank → ℕ → ℕ → ℕ → List (ℕ × Bank)
@@ -89,4 +89,4 @@ steps k r1 r2 r3 =
     ∷ []
 
 unfoldable pub stepOf : Bank → ℕ → ℕ → ℕ → ℕ → Bank
-stepOf k kind r1 r2 r3 = entry kind (steps k r1 r2 r3) k
+stepOf k kind r1 r2 r3 = tableEntry kind (steps k r1 r2 r3) k

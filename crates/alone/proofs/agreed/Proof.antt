@@ -6,9 +6,9 @@ use native.Mathlib.Omega.{arith}
 use lib.Dec.{eqb}
 use Rattle.network.proofs.Filling.{filled, fill-turn, fill-end}
 use Rattle.routing.specs.Alone.{everyBelow}
-use Rattle.alone.specs.Asked.{unasked, both, stagesOf}
-use Rattle.alone.proofs.Words.{length-stages, stage-word}
-use Rattle.alone.proofs.Calls.{met-turn, met-none, met-all}
+use Rattle.alone.specs.Asked.{unasked, both, stageWords}
+use Rattle.alone.proofs.AskedWords.{length-stages, stage-word}
+use Rattle.alone.proofs.AgreeFits.{met-turn, met-none, met-all}
 use borrow.Author.Needs.{needs}
 use Rattle.alone.proofs.agreed.Statement.{statement}
 use Rattle.alone.proofs.agreed.Tie as tie
@@ -16,7 +16,7 @@ use Rattle.alone.proofs.agreed.Tie as tie
 abbrev Inv-loop : tie.InvT-loop
 Inv-loop rising log routes places sources stages₀ at₀ stages at =
     (at ≤ log)
-    × (stages ≡ filled 0 at (stagesOf rising log (unasked true places sources (2 ^ log))))
+    × (stages ≡ filled 0 at (stageWords rising log (unasked true places sources (2 ^ log))))
     × (everyBelow at (λ i. eqb (both rising log places sources i) 0) ≡ true)
 
 abbrev μ-loop : tie.MeasureT-loop
@@ -43,7 +43,7 @@ returns c =
     let ps = a .places .now in
     let ss = a .sources .now in
     met-none (a .rising) (a .log) ps ss (l .at) (b .before .stage-at .ensures .1) (b .asked-of .ensures .0) (b .asked-of .ensures .1)
-    (stagesOf (a .rising) (a .log) (unasked true ps ss (2 ^ a .log))) (search needs) (c .if1 .taken)
+    (stageWords (a .rising) (a .log) (unasked true ps ss (2 ^ a .log))) (search needs) (c .if1 .taken)
 
 mul-stages : tie.Need-mul-stages Inv-loop μ-loop
 mul-stages c = search needs
@@ -66,7 +66,7 @@ loop-again c =
     let ss = a .sources .now in
     let d = unasked true ps ss (2 ^ a .log) in (
       search needs,
-      fill-turn 0 (stagesOf (a .rising) (a .log) d) (l .at) (search needs) (omega (arith, length-stages (a .rising) (a .log) d)) (l .inv .1)
+      fill-turn 0 (stageWords (a .rising) (a .log) d) (l .at) (search needs) (omega (arith, length-stages (a .rising) (a .log) d)) (l .inv .1)
           (stage-word (a .rising) (a .log) d (l .at) (search needs) (b .before .stage-at .ensures .1) (b .asked-of .ensures .0)),
       met-turn (a .rising) (a .log) ps ss (l .at) (b .before .stage-at .ensures .1) (b .asked-of .ensures .0) (b .asked-of .ensures .1)
           (l .inv .2) (c .if1 .left),
@@ -76,7 +76,7 @@ returns-2 : tie.Need-returns-2 Inv-loop μ-loop
 returns-2 c =
     let l = c .before .loop in
     let a = c .before .before .before .before .args in
-    let d = stagesOf (a .rising) (a .log) (unasked true (a .places .now) (a .sources .now) (2 ^ a .log)) in
+    let d = stageWords (a .rising) (a .log) (unasked true (a .places .now) (a .sources .now) (2 ^ a .log)) in
     met-all (a .rising) (a .log) (a .places .now) (a .sources .now) d (search needs) (l .inv .2)
     (l .inv .1 ∙ fill-end d (l .at) (omega (arith, length-stages (a .rising) (a .log) (unasked true (a .places .now) (a .sources .now) (2 ^ a .log)))))
 

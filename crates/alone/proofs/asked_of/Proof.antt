@@ -6,7 +6,7 @@ use native.Mathlib.Omega.{arith}
 use lib.Pow.{pow-mono}
 use Rattle.routing.specs.Lists.{wordOf}
 use Rattle.alone.specs.Asked.{unasked, askedWord, Within}
-use Rattle.alone.proofs.Steps.{none-asked, stage-turn}
+use Rattle.alone.proofs.OneRoute.{none-asked, stage-turn}
 use borrow.Author.Needs.{needs}
 use Rattle.alone.proofs.asked_of.Statement.{statement}
 use Rattle.alone.proofs.asked_of.Tie as tie

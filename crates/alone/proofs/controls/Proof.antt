@@ -1,7 +1,7 @@
 -- `alone::controls` meets its contract. Assumes nothing.
 use Prim.Native.Nat.{_^_}
 use Rattle.routing.specs.Lists.{ListPermutes}
-use Rattle.alone.proofs.Calls.{every-within, entries-within, answer-inverse, answer-butterfly}
+use Rattle.alone.proofs.AgreeFits.{every-within, entries-within, answer-inverse, answer-butterfly}
 use borrow.Author.Needs.{needs}
 use Rattle.alone.proofs.controls.Statement.{statement}
 use Rattle.alone.proofs.controls.Tie as tie

@@ -4,7 +4,7 @@ use Prim.Native.Nat.{ℕ, _-_, _≤_, _<_}
 use native.Mathlib.Omega.{arith}
 use lib.ListN.{length}
 use Rattle.routing.specs.Lists.{entry}
-use Rattle.alone.proofs.Steps.{place-turn}
+use Rattle.alone.proofs.OneRoute.{place-turn}
 use borrow.Author.Needs.{needs}
 use Rattle.alone.proofs.every_place.Statement.{statement}
 use Rattle.alone.proofs.every_place.Tie as tie

@@ -1,6 +1,6 @@
 -- `alone::switch_of` meets its contract. Assumes nothing.
 use native.Mathlib.Omega.{arith}
-use Rattle.alone.proofs.Steps.{switch-is, distance-pos}
+use Rattle.alone.proofs.OneRoute.{switch-is, distance-pos}
 use borrow.Author.Needs.{needs}
 use Rattle.alone.proofs.switch_of.Statement.{statement}
 use Rattle.alone.proofs.switch_of.Tie as tie

@@ -1,5 +1,5 @@
 -- `alone::with_route` meets its contract. Assumes nothing.
-use Rattle.alone.proofs.Steps.{route-passes, route-swaps}
+use Rattle.alone.proofs.OneRoute.{route-passes, route-swaps}
 use borrow.Author.Needs.{needs}
 use Rattle.alone.proofs.with_route.Statement.{statement}
 use Rattle.alone.proofs.with_route.Tie as tie

@@ -3,7 +3,7 @@ use mathlib.Core.Path.{_≡_}
 use Prim.Native.Nat.{ℕ, suc, _+_, _-_, _^_, _<_}
 use native.Mathlib.Omega.{arith}
 use borrow.Author.Needs.{needs}
-use Rattle.first.proofs.Routes.{route-last, lower-routable, upper-routable, route-halves}
+use Rattle.first.proofs.BlockHalves.{route-last, lower-routable, upper-routable, route-halves}
 use borrow.Fn.Kinds.{In}
 use borrow.Fn.PlainCycle.{Measures, is, falls, and}
 use Rattle.first.proofs.route.Reads as route

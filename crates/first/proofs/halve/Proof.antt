@@ -3,7 +3,7 @@ use mathlib.Core.Path.{_≡_, subst}
 use Prim.Native.Nat.{ℕ, _-_, _^_, _≤_}
 use native.Mathlib.Omega.{arith}
 use borrow.Author.Needs.{needs}
-use Rattle.first.specs.Marks.{swaps, swapsFrom}
+use Rattle.first.specs.Marks.{markSwaps, swapsFrom}
 use Rattle.first.proofs.Halving.{HalvedBelow, halve-start, halve-turn, halve-end}
 use Rattle.first.proofs.halve.Statement.{statement}
 use Rattle.first.proofs.halve.Tie as tie
@@ -60,7 +60,7 @@ loop-less : tie.Need-loop-less Inv-loop μ-loop
 loop-less c = search needs
 
 loop-again : tie.Need-loop-again Inv-loop μ-loop
-unfolding swaps
+unfolding markSwaps
 loop-again c =
     let l = c .before .before .before .before .before .before in
     let half = l .before .power .ensures .0 in

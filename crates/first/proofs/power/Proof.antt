@@ -2,7 +2,7 @@
 use native.Mathlib.Omega.{arith}
 use lib.Pow.{pow-pos, pow-mono}
 use borrow.Author.Needs.{needs}
-use Rattle.network.proofs.Columns.{shl-one}
+use Rattle.network.proofs.StageBlocks.{shl-one}
 use Rattle.first.proofs.power.Statement.{statement}
 use Rattle.first.proofs.power.Tie as tie
 

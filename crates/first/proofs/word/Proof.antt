@@ -5,7 +5,7 @@ use native.Mathlib.Omega.{arith}
 use borrow.Author.Needs.{needs}
 use Rattle.routing.specs.Lists.{wordOf}
 use Rattle.first.specs.Marks.{swapsFrom}
-use Rattle.first.proofs.Columns.{word-turn, word-fits, word-narrow}
+use Rattle.first.proofs.MarkWords.{word-turn, word-fits, word-narrow}
 use Rattle.first.proofs.word.Statement.{statement}
 use Rattle.first.proofs.word.Tie as tie
 

@@ -6,7 +6,7 @@ use borrow.Author.Needs.{needs}
 use Rattle.network.proofs.Filling.{filled, fill-turn, fill-end}
 use Rattle.routing.specs.Lists.{wordsOf}
 use Rattle.first.specs.Marks.{controlsIn}
-use Rattle.first.proofs.Columns.{butterfly-count, inverse-count, butterfly-word, inverse-word}
+use Rattle.first.proofs.MarkWords.{butterfly-count, inverse-count, butterfly-word, inverse-word}
 use Rattle.first.proofs.words.Statement.{statement}
 use Rattle.first.proofs.words.Tie as tie
 

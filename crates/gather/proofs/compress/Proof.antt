@@ -4,7 +4,7 @@ use Prim.Native.Nat.{_≤_, _<_, _-_}
 use native.Mathlib.Omega.{arith}
 use borrow.Author.Needs.{needs}
 use lib.Bits.{bitAnd, and-le-r}
-use Rattle.gather.proofs.Routes.{Pushed, pushed-none, pushed-next, pushed-all, distance, distance-lt}
+use Rattle.gather.proofs.BitRoutes.{Pushed, pushed-none, pushed-next, pushed-all, distance, distance-lt}
 use Rattle.gather.proofs.compress.Statement.{statement}
 use Rattle.gather.proofs.compress.Tie as tie
 

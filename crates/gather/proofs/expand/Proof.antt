@@ -4,7 +4,7 @@ use mathlib.Core.Path.{_≡_}
 use Prim.Native.Nat.{_≤_, _<_, _+_, _-_}
 use native.Mathlib.Omega.{arith}
 use borrow.Author.Needs.{needs}
-use Rattle.gather.proofs.Routes.{Pulled, pulled-all, pulled-next, pulled-none, distance, distance-lt}
+use Rattle.gather.proofs.BitRoutes.{Pulled, pulled-all, pulled-next, pulled-none, distance, distance-lt}
 use Rattle.gather.proofs.expand.Statement.{statement}
 use Rattle.gather.proofs.expand.Tie as tie
 

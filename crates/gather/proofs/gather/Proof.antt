@@ -1,8 +1,8 @@
 -- `gather::gather` meets its contract. Assumes nothing.
 use borrow.Author.Needs.{needs}
 use Rattle.gather.specs.Gather.{gatherOf}
-use Rattle.gather.proofs.Steps.{gather-64}
-use Rattle.gather.proofs.Calls.{answer-64}
+use Rattle.gather.proofs.AnyWidth.{gather-64}
+use Rattle.gather.proofs.MaskAnswers.{answer-64}
 use Rattle.gather.proofs.gather.Statement.{statement}
 use Rattle.gather.proofs.gather.Tie as tie
 

@@ -1,8 +1,8 @@
 -- `gather::group` meets its contract. Assumes nothing.
 use borrow.Author.Needs.{needs}
 use Rattle.gather.specs.Gather.{groupOf}
-use Rattle.gather.proofs.Steps.{group-64}
-use Rattle.gather.proofs.Calls.{answer-64}
+use Rattle.gather.proofs.AnyWidth.{group-64}
+use Rattle.gather.proofs.MaskAnswers.{answer-64}
 use Rattle.gather.proofs.group.Statement.{statement}
 use Rattle.gather.proofs.group.Tie as tie
 

@@ -2,7 +2,7 @@
 use native.Mathlib.Omega.{arith}
 use borrow.Author.Needs.{needs}
 use Rattle.bits.proofs.Rank.{rank-le}
-use Rattle.gather.proofs.Steps.{group-sum, group-all}
+use Rattle.gather.proofs.AnyWidth.{group-sum, group-all}
 use Rattle.gather.proofs.Theorems.{group-below}
 use Rattle.gather.proofs.group_bits.Statement.{statement}
 use Rattle.gather.proofs.group_bits.Tie as tie

@@ -3,7 +3,7 @@ use mathlib.Core.Path.{refl, sym, _∙_}
 use borrow.Author.Needs.{needs}
 use borrow.Author.Tests.{not-true, not-false}
 use Rattle.bits.proofs.Refusals.{not-width, is-width}
-use Rattle.gather.proofs.Calls.{refusal-by}
+use Rattle.gather.proofs.MaskAnswers.{refusal-by}
 use Rattle.gather.proofs.refusal.Statement.{statement}
 use Rattle.gather.proofs.refusal.Tie as tie
 

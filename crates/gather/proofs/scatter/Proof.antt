@@ -1,8 +1,8 @@
 -- `gather::scatter` meets its contract. Assumes nothing.
 use borrow.Author.Needs.{needs}
 use Rattle.gather.specs.Gather.{scatterOf}
-use Rattle.gather.proofs.Steps.{scatter-64}
-use Rattle.gather.proofs.Calls.{answer-64}
+use Rattle.gather.proofs.AnyWidth.{scatter-64}
+use Rattle.gather.proofs.MaskAnswers.{answer-64}
 use Rattle.gather.proofs.scatter.Statement.{statement}
 use Rattle.gather.proofs.scatter.Tie as tie
 

@@ -6,7 +6,7 @@ use mir.Val.{Fits}
 use mir.Syntax.{w32}
 use Rattle.network.specs.Stage.{butterflyOf}
 use Rattle.network.specs.Word.{travelOf}
-use Rattle.network.proofs.Calls.{carry-whole, carry-by}
+use Rattle.network.proofs.NetworkAnswers.{network-whole, network-by}
 use borrow.Author.Needs.{needs}
 use Rattle.network.proofs.butterfly.Statement.{statement}
 use Rattle.network.proofs.butterfly.Tie as tie
@@ -23,10 +23,10 @@ returns c =
     let a = b .before .before .args in
     let fit : (i : ℕ) → Fits w32 (getD (a .controls .stages) i 0) = λ i. search needs in
     c .answer .ensures
-    ∙ carry-whole butterflyOf (a .controls) (a .word) (search needs) (λ i. fit i .fits) (search needs) (b .if1 .taken) (c .before .butterfly-64 .ensures)
+    ∙ network-whole butterflyOf (a .controls) (a .word) (search needs) (λ i. fit i .fits) (search needs) (b .if1 .taken) (c .before .butterfly-64 .ensures)
 
-carry-refusal-requires : tie.Need-carry-refusal-requires
-carry-refusal-requires c κs = search needs
+network-refusal-requires : tie.Need-network-refusal-requires
+network-refusal-requires c κs = search needs
 
 through-requires : tie.Need-through-requires
 through-requires c κs = search needs
@@ -40,7 +40,7 @@ returns-2 c =
     let b = c .before .before in
     let a = b .before .before .before .args in
     c .answer2 .ensures
-    ∙ carry-by butterflyOf (a .width) (a .controls) (a .word) (b .carry-refusal .ensures) (c .before .through .ensures)
+    ∙ network-by butterflyOf (a .width) (a .controls) (a .word) (b .network-refusal .ensures) (c .before .through .ensures)
 
 pub butterfly-spec : {M : Type 1} → statement M
-butterfly-spec = tie.close (tie.spec butterfly-64-requires answer-requires returns carry-refusal-requires through-requires answer-requires-2 returns-2)
+butterfly-spec = tie.close (tie.spec butterfly-64-requires answer-requires returns network-refusal-requires through-requires answer-requires-2 returns-2)

@@ -1,5 +1,5 @@
 -- `network::butterfly_64` meets its contract. Assumes nothing.
-use Rattle.network.proofs.Six.{fall-whole}
+use Rattle.network.proofs.Six.{whole-butterfly}
 use borrow.Author.Needs.{needs}
 use Rattle.network.proofs.butterfly_64.Statement.{statement}
 use Rattle.network.proofs.butterfly_64.Tie as tie
@@ -7,11 +7,11 @@ use Rattle.network.proofs.butterfly_64.Tie as tie
 prepare-requires : tie.Need-prepare-requires
 prepare-requires c κs = search needs
 
-fall-requires : tie.Need-fall-requires
-fall-requires c κs = search needs
+butterfly-prepared-requires : tie.Need-butterfly-prepared-requires
+butterfly-prepared-requires c κs = search needs
 
 returns : tie.Need-returns
-returns c = fall-whole (c .before .before .args .stages) (search needs) (c .before .prepare .ensures) (c .fall .ensures)
+returns c = whole-butterfly (c .before .before .args .stages) (search needs) (c .before .prepare .ensures) (c .butterfly-prepared .ensures)
 
 pub butterfly-64-spec : {M : Type 1} → statement M
-butterfly-64-spec = tie.close (tie.spec prepare-requires fall-requires returns)
+butterfly-64-spec = tie.close (tie.spec prepare-requires butterfly-prepared-requires returns)

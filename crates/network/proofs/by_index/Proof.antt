@@ -10,10 +10,10 @@ use Rattle.network.proofs.by_index.Statement.{statement}
 use Rattle.network.proofs.by_index.Tie as tie
 
 abbrev Inv-loop : tie.InvT-loop
-Inv-loop rising log stages columns₀ index₀ columns index = (index ≤ 6) × (columns ≡ filled 0 index (byIndex rising log stages))
+Inv-loop rising log stages placed₀ index₀ placed index = (index ≤ 6) × (placed ≡ filled 0 index (byIndex rising log stages))
 
 abbrev μ-loop : tie.MeasureT-loop
-μ-loop rising log stages columns₀ index₀ columns index = 6 - index
+μ-loop rising log stages placed₀ index₀ placed index = 6 - index
 
 loop-holds : tie.Need-loop-holds Inv-loop μ-loop
 loop-holds c = (search needs, refl)
@@ -21,11 +21,11 @@ loop-holds c = (search needs, refl)
 stage-in-table-requires : tie.Need-stage-in-table-requires Inv-loop μ-loop
 stage-in-table-requires c κs = search needs
 
-mul-columns : tie.Need-mul-columns Inv-loop μ-loop
-mul-columns c = search needs
+mul-placed : tie.Need-mul-placed Inv-loop μ-loop
+mul-placed c = search needs
 
-array-write-columns : tie.Need-array-write-columns Inv-loop μ-loop
-array-write-columns c = search needs
+array-write-placed : tie.Need-array-write-placed Inv-loop μ-loop
+array-write-placed c = search needs
 
 add-index : tie.Need-add-index Inv-loop μ-loop
 add-index c = search needs
@@ -55,8 +55,8 @@ by-index-spec =
     μ-loop
     loop-holds
     stage-in-table-requires
-    mul-columns
-    array-write-columns
+    mul-placed
+    array-write-placed
     add-index
     loop-less
     loop-again

@@ -1,7 +1,7 @@
 -- `network::decode` meets its contract. Assumes nothing.
 use native.Mathlib.Omega.{arith}
 use Rattle.bits.proofs.Refusals.{log-le}
-use Rattle.network.proofs.Calls.{decode-refused, decode-done}
+use Rattle.network.proofs.NetworkAnswers.{decode-refused, decode-done}
 use borrow.Author.Needs.{needs}
 use Rattle.network.proofs.decode.Statement.{statement}
 use Rattle.network.proofs.decode.Tie as tie

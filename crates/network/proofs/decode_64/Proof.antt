@@ -1,7 +1,7 @@
 -- `network::decode_64` meets its contract. Assumes nothing.
 use mathlib.Core.Path.{_∙_}
 use Rattle.network.specs.Decoder.{decodeOf}
-use Rattle.network.proofs.Routing.{length-decode}
+use Rattle.network.proofs.MaskRouting.{length-decode}
 use Rattle.network.proofs.Six.{six-whole}
 use borrow.Author.Needs.{needs}
 use Rattle.network.proofs.decode_64.Statement.{statement}

@@ -7,7 +7,7 @@ use lib.ListN.{take, length-reverse}
 use lib.Seq.{take-all}
 use Rattle.network.specs.Calls.{six}
 use Rattle.network.specs.Decoder.{decodeOf, decodeInverseOf}
-use Rattle.network.proofs.Routing.{length-decode}
+use Rattle.network.proofs.MaskRouting.{length-decode}
 use Rattle.network.proofs.Six.{six-whole}
 use borrow.Author.Needs.{needs}
 use Rattle.network.proofs.decode_inverse_64.Statement.{statement}

@@ -2,7 +2,7 @@
 use mathlib.Core.Path.{refl, sym, _∙_}
 use borrow.Author.Tests.{not-true, not-false}
 use Rattle.bits.proofs.Refusals.{not-width, is-width}
-use Rattle.network.proofs.Calls.{decode-refusal-by}
+use Rattle.network.proofs.NetworkAnswers.{decode-refusal-by}
 use borrow.Author.Needs.{needs}
 use Rattle.network.proofs.decode_refusal.Statement.{statement}
 use Rattle.network.proofs.decode_refusal.Tie as tie

@@ -4,8 +4,8 @@ use Prim.Native.Nat.{_-_, _≤_}
 use native.Mathlib.Omega.{arith}
 use Rattle.network.specs.Decoder.{decodeOf}
 use Rattle.network.proofs.Filling.{filled, fill-turn, fill-end}
-use Rattle.network.proofs.Columns.{stage-size, decoded-at, decoded-lt}
-use Rattle.network.proofs.Routing.{length-decode}
+use Rattle.network.proofs.StageBlocks.{stage-size, decoded-at, decoded-lt}
+use Rattle.network.proofs.MaskRouting.{length-decode}
 use borrow.Author.Needs.{needs}
 use Rattle.network.proofs.decode_stages.Statement.{statement}
 use Rattle.network.proofs.decode_stages.Tie as tie

@@ -1,7 +1,7 @@
 -- `network::exchange` meets its contract. Assumes nothing.
 use Rattle.network.specs.Word.{exchangeOf}
 use Rattle.network.proofs.Table.{distance-at}
-use Rattle.network.proofs.Steps.{distance-lt}
+use Rattle.network.proofs.TableSteps.{distance-lt}
 use borrow.Author.Needs.{needs}
 use Rattle.network.proofs.exchange.Statement.{statement}
 use Rattle.network.proofs.exchange.Tie as tie

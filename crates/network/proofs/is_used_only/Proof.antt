@@ -4,7 +4,7 @@ use Prim.Native.Nat.{_≤_, _-_}
 use lib.ListN.{drop}
 use Rattle.network.specs.Calls.{controlsFit}
 use borrow.Author.Tests.{not-true, not-false}
-use Rattle.network.proofs.Calls.{fit-now, fit-end}
+use Rattle.network.proofs.NetworkAnswers.{fit-now, fit-end}
 use borrow.Author.Needs.{needs}
 use Rattle.network.proofs.is_used_only.Statement.{statement}
 use Rattle.network.proofs.is_used_only.Tie as tie

@@ -11,10 +11,10 @@ use Rattle.network.proofs.prepare.Statement.{statement}
 use Rattle.network.proofs.prepare.Tie as tie
 
 abbrev Inv-loop : tie.InvT-loop
-Inv-loop columns words₀ index₀ words index = (index ≤ 6) × (words ≡ filled 0 index (swapsAt (falling 6) columns))
+Inv-loop stages words₀ index₀ words index = (index ≤ 6) × (words ≡ filled 0 index (swapsAt (falling 6) stages))
 
 abbrev μ-loop : tie.MeasureT-loop
-μ-loop columns words₀ index₀ words index = 6 - index
+μ-loop stages words₀ index₀ words index = 6 - index
 
 loop-holds : tie.Need-loop-holds Inv-loop μ-loop
 loop-holds c = (search needs, refl)

@@ -4,18 +4,18 @@ use native.Mathlib.Omega.{arith}
 use Rattle.bits.proofs.Refusals.{log-le}
 use Rattle.network.specs.Stage.{falling}
 use Rattle.network.specs.Word.{swapsAt}
-use Rattle.network.proofs.Calls.{prepare-refused, prepare-done}
+use Rattle.network.proofs.NetworkAnswers.{prepare-refused, prepare-done}
 use borrow.Author.Needs.{needs}
 use Rattle.network.proofs.ready.Statement.{statement}
 use Rattle.network.proofs.ready.Tie as tie
 
-carry-refusal-requires : tie.Need-carry-refusal-requires
-carry-refusal-requires c κs = search needs
+network-refusal-requires : tie.Need-network-refusal-requires
+network-refusal-requires c κs = search needs
 
 returns : tie.Need-returns
 returns c =
     let a = c .before .before .before .args in
-    prepare-refused (a .rising) (a .width) (a .controls) (c .before .carry-refusal .ensures) (c .if1 .taken)
+    prepare-refused (a .rising) (a .width) (a .controls) (c .before .network-refusal .ensures) (c .if1 .taken)
 
 log-of-requires : tie.Need-log-of-requires
 log-of-requires c κs = search needs
@@ -33,14 +33,14 @@ returns-2 : tie.Need-returns-2
 returns-2 c =
     let b = c .before .before .before in
     let a = b .before .before .before .args in
-    prepare-done (a .rising) (a .width) (a .controls) (b .before .carry-refusal .ensures) (b .if1 .left) (c .before .before .log-of .ensures)
+    prepare-done (a .rising) (a .width) (a .controls) (b .before .network-refusal .ensures) (b .if1 .left) (c .before .before .log-of .ensures)
     (c .prepare .ensures ∙ ap (swapsAt (falling 6)) (c .before .by-index .ensures))
 
 pub ready-spec : {M : Type 1} → statement M
 ready-spec =
     tie.close
     (tie.spec
-    carry-refusal-requires
+    network-refusal-requires
     returns
     log-of-requires
     cast-by-index

@@ -3,17 +3,17 @@ use mathlib.Core.Path.{_≡_, sym, _∙_, ap}
 use native.Mathlib.Omega.{arith}
 use Prim.Native.Nat.{ℕ, _+_, _≤_, _-_, _^_}
 use Rattle.network.specs.Word.{spreadOf}
-use Rattle.network.proofs.Words.{spread-none}
-use Rattle.network.proofs.Steps.{distance-lt, spread-turn}
+use Rattle.network.proofs.PairsExchanged.{spread-none}
+use Rattle.network.proofs.TableSteps.{distance-lt, spread-turn}
 use borrow.Author.Needs.{needs}
 use Rattle.network.proofs.spread.Statement.{statement}
 use Rattle.network.proofs.spread.Tie as tie
 
 abbrev Inv-loop : tie.InvT-loop
-Inv-loop index column bits₀ at₀ bits at = (at ≤ index) × (bits ≡ spreadOf (2 ^ (5 - at)) column)
+Inv-loop index stage bits₀ at₀ bits at = (at ≤ index) × (bits ≡ spreadOf (2 ^ (5 - at)) stage)
 
 abbrev μ-loop : tie.MeasureT-loop
-μ-loop index column bits₀ at₀ bits at = index - at
+μ-loop index stage bits₀ at₀ bits at = index - at
 
 loop-holds : tie.Need-loop-holds Inv-loop μ-loop
 loop-holds c = (search needs, sym (spread-none (search needs)))
@@ -40,10 +40,10 @@ loop-less : tie.Need-loop-less Inv-loop μ-loop
 loop-less c = search needs
 
 loop-again : tie.Need-loop-again Inv-loop μ-loop
-loop-again c = (search needs, spread-turn (c .before .loop .at) (c .before .before .args .column) (search needs) (c .before .loop .inv .1))
+loop-again c = (search needs, spread-turn (c .before .loop .at) (c .before .before .args .stage) (search needs) (c .before .loop .inv .1))
 
 returns : tie.Need-returns Inv-loop μ-loop
-returns c = let e : c .before .loop .at ≡ c .before .before .args .index = omega arith in c .before .loop .inv .1 ∙ ap (λ (n : ℕ). spreadOf (2 ^ (5 - n)) (c .before .before .args .column)) e
+returns c = let e : c .before .loop .at ≡ c .before .before .args .index = omega arith in c .before .loop .inv .1 ∙ ap (λ (n : ℕ). spreadOf (2 ^ (5 - n)) (c .before .before .args .stage)) e
 
 pub spread-spec : {M : Type 1} → statement M
 spread-spec =

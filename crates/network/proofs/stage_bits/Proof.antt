@@ -4,7 +4,7 @@ use Prim.Native.Nat.{ℕ, _+_, _-_, _*_, _<_, _≤_}
 use native.Mathlib.Omega.{arith}
 use Rattle.bits.specs.Bit.{ofBits}
 use Rattle.network.specs.Decoder.{controlAt}
-use Rattle.network.proofs.Columns.{shl-one, block-small, stage-turn, stage-fits}
+use Rattle.network.proofs.StageBlocks.{shl-one, block-small, stage-turn, stage-fits}
 use lib.Pow.{pow-pos}
 use borrow.Author.Needs.{needs}
 use Rattle.network.proofs.stage_bits.Statement.{statement}

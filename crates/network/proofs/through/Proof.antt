@@ -3,7 +3,7 @@ use mathlib.Core.Path.{_∙_, ap}
 use Prim.Native.Nat.{ℕ}
 use borrow.Author.Tests.{eq-eqb, ne-eqb}
 use Rattle.network.specs.Word.{travelOf}
-use Rattle.network.proofs.Calls.{carry-limits}
+use Rattle.network.proofs.NetworkAnswers.{network-limits}
 use borrow.Author.Needs.{needs}
 use Rattle.network.proofs.through.Statement.{statement}
 use Rattle.network.proofs.through.Tie as tie
@@ -14,20 +14,20 @@ returns c = rw (ne-eqb (c .before .args .refused) 0 (c .if1 .taken))
 log-of-requires : tie.Need-log-of-requires
 log-of-requires c κs = search needs
 
-cast-carry : tie.Need-cast-carry
-cast-carry c = search needs
+cast-send : tie.Need-cast-send
+cast-send c = search needs
 
-carry-requires : tie.Need-carry-requires
-carry-requires c κs =
+send-requires : tie.Need-send-requires
+send-requires c κs =
     let b = c .before in
     let a = b .before .args in
-    carry-limits (a .width) (a .stages) (a .word) (b .before .pre) (b .if1 .left) (c .log-of .ensures)
+    network-limits (a .width) (a .stages) (a .word) (b .before .pre) (b .if1 .left) (c .log-of .ensures)
 
 returns-2 : tie.Need-returns-2
 returns-2 c =
     let b = c .before .before in
     let a = b .before .args in
-    rw (eq-eqb (a .refused) 0 (b .if1 .left)) (c .carry .ensures ∙ ap (λ (l : ℕ). travelOf (a .rising) l (a .stages) (a .word)) (c .before .log-of .ensures))
+    rw (eq-eqb (a .refused) 0 (b .if1 .left)) (c .send .ensures ∙ ap (λ (l : ℕ). travelOf (a .rising) l (a .stages) (a .word)) (c .before .log-of .ensures))
 
 pub through-spec : {M : Type 1} → statement M
-through-spec = tie.close (tie.spec returns log-of-requires cast-carry carry-requires returns-2)
+through-spec = tie.close (tie.spec returns log-of-requires cast-send send-requires returns-2)

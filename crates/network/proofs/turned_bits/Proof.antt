@@ -3,7 +3,7 @@ use Prim.Native.Nat.{_-_, _*_}
 use native.Mathlib.Omega.{arith}
 use native.Mathlib.Nat.{mod-lt}
 use lib.Pow.{pow-pos}
-use Rattle.network.proofs.Columns.{shl-one, turned-window}
+use Rattle.network.proofs.StageBlocks.{shl-one, turned-window}
 use borrow.Author.Needs.{needs}
 use Rattle.network.proofs.turned_bits.Statement.{statement}
 use Rattle.network.proofs.turned_bits.Tie as tie

@@ -1,5 +1,5 @@
 -- `network::used_bits` meets its contract. Assumes nothing.
-use Rattle.network.proofs.Calls.{used-some, used-none}
+use Rattle.network.proofs.NetworkAnswers.{used-some, used-none}
 use borrow.Author.Needs.{needs}
 use Rattle.network.proofs.used_bits.Statement.{statement}
 use Rattle.network.proofs.used_bits.Tie as tie

@@ -1,7 +1,7 @@
 -- `pack::answer` meets its contract. Assumes nothing.
 use mathlib.Core.Path.{sym, _∙_}
 use native.Mathlib.Omega.{arith}
-use Rattle.pack.proofs.Calls.{within, answer-refused, answer-done, bits-fit}
+use Rattle.pack.proofs.FieldAnswers.{within, answer-refused, answer-done, bits-fit}
 use borrow.Author.Needs.{needs}
 use Rattle.pack.proofs.answer.Statement.{statement}
 use Rattle.pack.proofs.answer.Tie as tie

@@ -3,7 +3,7 @@ use native.Mathlib.Omega.{arith}
 use lib.ListN.{length}
 use Rattle.bits.proofs.Rank.{rank-le}
 use Rattle.pack.specs.Fields.{sizeOf, cut, packInto}
-use Rattle.pack.proofs.Calls.{Within, refused, carried-out, limits, cut-room}
+use Rattle.pack.proofs.FieldAnswers.{Within, refused, carried-out, limits, cut-room}
 use borrow.Author.Needs.{needs}
 use Rattle.pack.proofs.pack.Statement.{statement}
 use Rattle.pack.proofs.pack.Tie as tie

@@ -7,7 +7,7 @@ use lib.ListN.{length, length-set}
 use Rattle.bits.proofs.Rank.{rank-le}
 use Rattle.pack.specs.Fields.{sizeOf, scatteredAt}
 use Rattle.pack.specs.Cursor.{filled, Awaits}
-use Rattle.pack.proofs.Lists.{fill-none, fill-next, fill-all}
+use Rattle.pack.proofs.FilledLists.{fill-none, fill-next, fill-all}
 use Rattle.pack.proofs.Turns.{unpack-starts, unpack-room, unpack-turn, unpack-field}
 use Rattle.pack.proofs.read_fields.Statement.{statement}
 use Rattle.pack.proofs.read_fields.Tie as tie

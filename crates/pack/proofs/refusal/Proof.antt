@@ -2,7 +2,7 @@
 use Prim.Native.Nat.{_*_, _-_, _≤_}
 use native.Mathlib.Omega.{arith}
 use borrow.Author.Needs.{needs}
-use Rattle.pack.proofs.Calls.{bits-le, by-order, by-end, by-own, by-other, by-short, by-none}
+use Rattle.pack.proofs.FieldAnswers.{bits-le, by-order, by-end, by-own, by-other, by-short, by-none}
 use Rattle.pack.proofs.refusal.Statement.{statement}
 use Rattle.pack.proofs.refusal.Tie as tie
 

@@ -3,7 +3,7 @@ use native.Mathlib.Omega.{arith}
 use lib.ListN.{length}
 use Rattle.bits.proofs.Rank.{rank-le}
 use Rattle.pack.specs.Fields.{sizeOf, unpackInto}
-use Rattle.pack.proofs.Calls.{Within, refused, carried-out, limits, cut-room, cut-filled}
+use Rattle.pack.proofs.FieldAnswers.{Within, refused, carried-out, limits, cut-room, cut-filled}
 use borrow.Author.Needs.{needs}
 use Rattle.pack.proofs.unpack.Statement.{statement}
 use Rattle.pack.proofs.unpack.Tie as tie

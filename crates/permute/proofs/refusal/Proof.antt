@@ -2,7 +2,7 @@
 use mathlib.Core.Path.{refl, sym, _∙_}
 use borrow.Author.Tests.{eq-eqb, ne-eqb, not-true, not-false}
 use Rattle.bits.proofs.Refusals.{not-width, is-width, width-le}
-use Rattle.permute.proofs.Calls.{route-refusal-by}
+use Rattle.permute.proofs.PermutationAnswers.{route-refusal-by}
 use borrow.Author.Needs.{needs}
 use Rattle.permute.proofs.refusal.Statement.{statement}
 use Rattle.permute.proofs.refusal.Tie as tie

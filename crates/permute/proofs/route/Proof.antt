@@ -1,6 +1,6 @@
 -- `permute::route` meets its contract. Assumes nothing.
-use Rattle.permute.proofs.Calls.{route-permutes}
-use Rattle.permute.proofs.Answers.{route-refused, route-done, answers-first}
+use Rattle.permute.proofs.PermutationAnswers.{route-permutes}
+use Rattle.permute.proofs.FirstAnswers.{route-refused, route-done, answers-first}
 use borrow.Author.Needs.{needs}
 use Rattle.permute.proofs.route.Statement.{statement}
 use Rattle.permute.proofs.route.Tie as tie

@@ -4,7 +4,7 @@ use Prim.Native.Nat.{_+_, _-_, _*_, _<_, _≤_}
 use borrow.Author.Needs.{needs}
 use lib.ListN.{length, drop}
 use Rattle.unit.specs.Run.{operationsOf}
-use Rattle.unit.proofs.Lists.{operations-next, operations-end}
+use Rattle.unit.proofs.OperationLists.{operations-next, operations-end}
 use Rattle.unit.proofs.Runs.{Going, going-none, going-next, going-spent, going-done}
 use Rattle.unit.proofs.carry_out.Statement.{statement}
 use Rattle.unit.proofs.carry_out.Tie as tie

@@ -4,7 +4,7 @@ use Prim.Native.Nat.{_+_, _-_, _%_, _<_, _≤_}
 use borrow.Author.Needs.{needs}
 use lib.ListN.{length, drop}
 use Rattle.unit.specs.Run.{operationsOf}
-use Rattle.unit.proofs.Lists.{operations-next, operations-end, Sofar, sofar-none, sofar-next, sofar-all}
+use Rattle.unit.proofs.OperationLists.{operations-next, operations-end, Sofar, sofar-none, sofar-next, sofar-all}
 use Rattle.unit.proofs.operations_refusal.Statement.{statement}
 use Rattle.unit.proofs.operations_refusal.Tie as tie
 

@@ -3,7 +3,7 @@ use mathlib.Core.Path.{sym, _∙_}
 use borrow.Author.Needs.{needs}
 use borrow.Author.Tests.{eq-eqb, ne-eqb}
 use Rattle.unit.specs.Run.{runOf}
-use Rattle.unit.proofs.Lists.{run-within}
+use Rattle.unit.proofs.OperationLists.{run-within}
 use Rattle.unit.proofs.run.Statement.{statement}
 use Rattle.unit.proofs.run.Tie as tie
 

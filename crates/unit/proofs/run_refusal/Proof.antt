@@ -2,7 +2,7 @@
 use mathlib.Core.Path.{refl, sym}
 use borrow.Author.Needs.{needs}
 use borrow.Author.Tests.{eq-eqb, ne-eqb, le-leb, lt-leb}
-use Rattle.unit.proofs.Lists.{run-refusal-by}
+use Rattle.unit.proofs.OperationLists.{run-refusal-by}
 use Rattle.unit.proofs.run_refusal.Statement.{statement}
 use Rattle.unit.proofs.run_refusal.Tie as tie
 

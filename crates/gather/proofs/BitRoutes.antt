@@ -14,7 +14,7 @@ use Rattle.bits.proofs.Rank.{select}
 use Rattle.gather.specs.Gather.{gatherOf, scatterOf}
 use Rattle.gather.specs.Moves.{gaps, Move}
 use Rattle.gather.proofs.Gaps.{gaps-rank, gaps-between}
-use Rattle.gather.proofs.Steps.{gather-lt, scatter-lt}
+use Rattle.gather.proofs.AnyWidth.{gather-lt, scatter-lt}
 use Rattle.gather.proofs.Theorems.{bit-gather, bit-gather-above, bit-scatter}
 
 -- where what stood at p is after i moves

@@ -18,7 +18,7 @@ use Rattle.bits.proofs.Word.{bit-xor}
 use Rattle.routing.specs.Loop.{swap}
 use Rattle.routing.specs.Lists.{entry, wordOf}
 use Rattle.alone.specs.Asked.{crossed, straight, asks, asked, unasked, Within}
-use Rattle.alone.proofs.Words.{asked-turn}
+use Rattle.alone.proofs.AskedWords.{asked-turn}
 
 -- the places are blocks of twice the distance
 blocks : (n e : ℕ) → e < n → 2 ^ n ≡ 2 ^ (n - suc e) * 2 ^ suc e

@@ -8,10 +8,10 @@ use lib.ListN.{length, length-map}
 use Rattle.bits.specs.Bit.{bit}
 use Rattle.bits.proofs.Word.{bit-and, ofBits-lt, ext}
 use Rattle.gather.specs.Gather.{gatherOf, scatterOf}
-use Rattle.gather.proofs.Steps.{gather-lt, scatter-lt}
+use Rattle.gather.proofs.AnyWidth.{gather-lt, scatter-lt}
 use Rattle.gather.proofs.Theorems.{bit-scatter}
 use Rattle.network.specs.Stage.{source, stage, falling, rising, butterflyOf, inverseOf}
-use Rattle.network.specs.Decoder.{column, controlAt, decodeOf, decodeInverseOf}
+use Rattle.network.specs.Decoder.{decodedStage, controlAt, decodeOf, decodeInverseOf}
 use Rattle.network.proofs.Travel.{Fits, source-below, bit-stage, travel-lt, travel-back, falling-fit, rising-fit, reverse-falling, reverse-rising, length-falling, length-rising}
 use Rattle.network.proofs.Decoding.{routed-masked, routed-gather}
 pub use Rattle.network.proofs.Turn.{turned-bit}
@@ -28,7 +28,7 @@ pub inverse-lt : (L : ℕ) (cs : List ℕ) {x : ℕ} → x < 2 ^ 2 ^ L → inver
 unfolding inverseOf
 inverse-lt L cs h = travel-lt (2 ^ L) (rising L) cs h
 
--- each network on reversed columns undoes the other, for any controls
+-- each network on reversed stages undoes the other, for any controls
 
 pub undo : (L : ℕ) (cs : List ℕ) → length cs ≡ L → (x : ℕ) → x < 2 ^ 2 ^ L → inverseOf L (reverse cs) (butterflyOf L cs x) ≡ x
 unfolding butterflyOf inverseOf
@@ -40,15 +40,15 @@ unfolding butterflyOf inverseOf
 undo-inverse L cs e x h =
     rw (← reverse-rising L) (travel-back (2 ^ L) (rising L) cs (e ∙ sym (length-rising L)) (rising-fit L (omega arith)) h)
 
--- the decoder answers one column for each stage, in the bits that a column uses
+-- the decoder answers one word for each stage, in the bits that a stage uses
 
-pub column-lt : (w m d : ℕ) → column w m d < 2 ^ (w / 2)
-unfolding column
-column-lt w m d = ofBits-lt (w / 2) (controlAt d m)
+pub decoded-stage-lt : (w m d : ℕ) → decodedStage w m d < 2 ^ (w / 2)
+unfolding decodedStage
+decoded-stage-lt w m d = ofBits-lt (w / 2) (controlAt d m)
 
 pub length-decode : (L m : ℕ) → length (decodeOf L m) ≡ L
 unfolding decodeOf
-length-decode L m = length-map (falling L) (column (2 ^ L) m) ∙ length-falling L
+length-decode L m = length-map (falling L) (decodedStage (2 ^ L) m) ∙ length-falling L
 
 -- through the butterfly, then masked, is scatter; masked, then through the inverse, is gather
 

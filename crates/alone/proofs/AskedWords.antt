@@ -15,8 +15,8 @@ use Rattle.bits.specs.Bit.{bit}
 use Rattle.bits.proofs.Word.{bit-of-zero, bit-and, bit-or, bit-shl-low, bit-shl-high, bit-above, ext}
 use Rattle.routing.specs.Loop.{pass}
 use Rattle.routing.specs.Lists.{wordOf, butterflyWords, inverseWords}
-use Rattle.routing.proofs.Words.{word-small, word-bit}
-use Rattle.alone.specs.Asked.{crossed, asks, asked, stageAt, stagesOf}
+use Rattle.routing.proofs.StageWords.{word-small, word-bit}
+use Rattle.alone.specs.Asked.{crossed, asks, asked, stageAt, stageWords}
 
 power-bit : (s i : ℕ) → bit (2 ^ s) i ≡ cond (eqb i s) 1 0
 unfolding bit
@@ -123,8 +123,8 @@ unfolding inverseWords
 inverse-length w e zero c = refl
 inverse-length w e (suc n) c = ap suc (inverse-length w (suc e) n c)
 
-pub length-stages : (rising : Bool) (n : ℕ) (c : ℕ → ℕ → Bool) → length (stagesOf rising n c) ≡ n
-unfolding stagesOf
+pub length-stages : (rising : Bool) (n : ℕ) (c : ℕ → ℕ → Bool) → length (stageWords rising n c) ≡ n
+unfolding stageWords
 length-stages true n c = inverse-length (2 ^ n / 2) 0 n c
 length-stages false n c = butterfly-length (2 ^ n / 2) n c
 
@@ -133,11 +133,11 @@ pub stage-word :
     → i < n
     → e ≡ stageAt rising n i
     → v ≡ wordOf (2 ^ n / 2) (c e)
-    → v ≡ getD (stagesOf rising n c) i 0
-unfolding stagesOf
+    → v ≡ getD (stageWords rising n c) i 0
+unfolding stageWords
 stage-word rising n c i h q f = f ∙ ap (λ (e : ℕ). wordOf (2 ^ n / 2) (c e)) q ∙ go rising
   where
-    go : (b : Bool) → wordOf (2 ^ n / 2) (c (stageAt b n i)) ≡ getD (stagesOf b n c) i 0
+    go : (b : Bool) → wordOf (2 ^ n / 2) (c (stageAt b n i)) ≡ getD (stageWords b n c) i 0
     go true =
         let z : i ≡ 0 + i = omega arith in
         ap (λ (e : ℕ). wordOf (2 ^ n / 2) (c e)) z ∙ sym (inverse-stage (2 ^ n / 2) 0 n c i h)

@@ -9,7 +9,7 @@ use native.Mathlib.Nat.{pow-succ', mod-eq-of-lt, one-mul, zero-add, add-zero}
 use native.Mathlib.Numerals.{add-one}
 use lib.Dec.{eqb}
 use lib.ListN.{length, getD, take, drop, replicate, drop-of-length-le}
-use Rattle.network.proofs.Routing.{length-decode}
+use Rattle.network.proofs.MaskRouting.{length-decode}
 use lib.Pow.{pow-mono}
 use lib.Seq.{drop-cons, take-at}
 use borrow.Author.Tests.{eq-eqb, ne-eqb, lt-ltb, le-ltb, ltb-true}
@@ -21,7 +21,7 @@ use Rattle.network.specs.declared.Prepared.{Prepared}
 use Rattle.network.specs.declared.Decoded.{Decoded}
 use Rattle.network.specs.Word.{preparedOf}
 use Rattle.network.specs.Decoder.{decodeOf, decodeInverseOf}
-use Rattle.network.specs.Calls.{usedBits, controlsFit, carryConditions, carryRefusal, carryAnswer, prepareAnswer, six, controls, decodeConditions, decodeRefusal, decodeAnswer}
+use Rattle.network.specs.Calls.{usedBits, controlsFit, networkConditions, networkRefusal, networkAnswer, prepareAnswer, six, controls, decodeConditions, decodeRefusal, decodeAnswer}
 
 -- the control bits in use
 
@@ -65,21 +65,21 @@ abbrev byTests : Bool → Bool → Bool → ℕ
 byTests a f g = lowest ((1, not a) ∷ (2, not f) ∷ (3, not g) ∷ [])
 
 module _ (w : ℕ) (cs : List ℕ) (x : ℕ) where
-  pub carry-refusal-by : {a f g : Bool} → accepted w ≡ a → fits w x ≡ f → controlsFit (logOf w) 0 cs ≡ g → carryRefusal w cs x ≡ byTests a f g
-  unfolding carryRefusal
-  carry-refusal-by {a} {f} {g} p q r =
+  pub network-refusal-by : {a f g : Bool} → accepted w ≡ a → fits w x ≡ f → controlsFit (logOf w) 0 cs ≡ g → networkRefusal w cs x ≡ byTests a f g
+  unfolding networkRefusal
+  network-refusal-by {a} {f} {g} p q r =
       ap (λ (b : Bool). byTests b (fits w x) (controlsFit (logOf w) 0 cs)) p
       ∙ ap (λ (b : Bool). byTests a b (controlsFit (logOf w) 0 cs)) q
       ∙ ap (λ (b : Bool). byTests a f b) r
 
   -- demand 1, of both networks
-  pub carry-refusal-lowest : IsLowest (carryConditions w cs x) (carryRefusal w cs x)
-  unfolding carryRefusal
-  carry-refusal-lowest = lowest-law (carryConditions w cs x) (omega arith)
+  pub network-refusal-lowest : IsLowest (networkConditions w cs x) (networkRefusal w cs x)
+  unfolding networkRefusal
+  network-refusal-lowest = lowest-law (networkConditions w cs x) (omega arith)
 
   -- a call that is carried out is within the limits
-  pub carry-within : carryRefusal w cs x ≡ 0 → (accepted w ≡ true) × (x < 2 ^ w) × (controlsFit (logOf w) 0 cs ≡ true)
-  carry-within e = by-tests (accepted w) (fits w x) (controlsFit (logOf w) 0 cs) refl refl refl (sym (carry-refusal-by refl refl refl) ∙ e)
+  pub network-within : networkRefusal w cs x ≡ 0 → (accepted w ≡ true) × (x < 2 ^ w) × (controlsFit (logOf w) 0 cs ≡ true)
+  network-within e = by-tests (accepted w) (fits w x) (controlsFit (logOf w) 0 cs) refl refl refl (sym (network-refusal-by refl refl refl) ∙ e)
     where
       by-tests : (a f g : Bool) → accepted w ≡ a → fits w x ≡ f → controlsFit (logOf w) 0 cs ≡ g → byTests a f g ≡ 0
           → (accepted w ≡ true) × (x < 2 ^ w) × (controlsFit (logOf w) 0 cs ≡ true)
@@ -88,30 +88,30 @@ module _ (w : ℕ) (cs : List ℕ) (x : ℕ) where
       by-tests true false g p q r z = absurd (omega arith)
       by-tests false f g p q r z = absurd (omega arith)
 
-  pub carry-limits : {n l : ℕ} → n ≡ carryRefusal w cs x → n ≡ 0 → l ≡ logOf w → (l ≤ 6) × (x < 2 ^ 2 ^ l)
-  carry-limits e z q =
-      let i = carry-within (sym e ∙ z) in
+  pub network-limits : {n l : ℕ} → n ≡ networkRefusal w cs x → n ≡ 0 → l ≡ logOf w → (l ≤ 6) × (x < 2 ^ 2 ^ l)
+  network-limits e z q =
+      let i = network-within (sym e ∙ z) in
       let l = log-width w (i .0) in
       (omega (arith, l .2), rw q (rw (l .0) at (i .1)))
 
-module _ (f : ℕ → List ℕ → ℕ → ℕ) (w : ℕ) (k : Controls) (x : ℕ) {n : ℕ} (e : n ≡ carryRefusal w (k .stages) x) where
-  pub carry-done : n ≡ 0 → {l y : ℕ} → l ≡ logOf w → y ≡ f l (k .stages) x
-      → _≡_ {A = Carried} (record { refusal = 0; word = y }) (carryAnswer f w k x)
-  unfolding carryAnswer
-  carry-done z q y = rw (← e, eq-eqb n 0 z, y, q)
+module _ (f : ℕ → List ℕ → ℕ → ℕ) (w : ℕ) (k : Controls) (x : ℕ) {n : ℕ} (e : n ≡ networkRefusal w (k .stages) x) where
+  pub network-done : n ≡ 0 → {l y : ℕ} → l ≡ logOf w → y ≡ f l (k .stages) x
+      → _≡_ {A = Carried} (record { refusal = 0; word = y }) (networkAnswer f w k x)
+  unfolding networkAnswer
+  network-done z q y = rw (← e, eq-eqb n 0 z, y, q)
 
   -- the refusal, and the word if there is none
-  pub carry-by : {y : ℕ} → y ≡ cond (eqb n 0) (f (logOf w) (k .stages) x) 0 → _≡_ {A = Carried} (record { refusal = n; word = y }) (carryAnswer f w k x)
-  unfolding carryAnswer
-  carry-by {y} g = by (decLt 0 n)
+  pub network-by : {y : ℕ} → y ≡ cond (eqb n 0) (f (logOf w) (k .stages) x) 0 → _≡_ {A = Carried} (record { refusal = n; word = y }) (networkAnswer f w k x)
+  unfolding networkAnswer
+  network-by {y} g = by (decLt 0 n)
     where
-      by : Dec (0 < n) → _≡_ {A = Carried} (record { refusal = n; word = y }) (carryAnswer f w k x)
+      by : Dec (0 < n) → _≡_ {A = Carried} (record { refusal = n; word = y }) (networkAnswer f w k x)
       by (yes h) = let z : n ≡ 0 → ⊥ = λ q. omega arith in rw (g, ← e, ne-eqb n 0 z)
       by (no h) = let z : n ≡ 0 = omega arith in rw (g, ← e, z)
 
 -- a call that makes a network ready
 
-module _ (b : Bool) (w : ℕ) (k : Controls) {n : ℕ} (e : n ≡ carryRefusal w (k .stages) 0) where
+module _ (b : Bool) (w : ℕ) (k : Controls) {n : ℕ} (e : n ≡ networkRefusal w (k .stages) 0) where
   pub prepare-refused : (n ≡ 0 → ⊥) → _≡_ {A = Prepared} (record { refusal = n; swaps = replicate 6 0 }) (prepareAnswer b w k)
   unfolding prepareAnswer
   prepare-refused z = rw (← e, ne-eqb n 0 z)
@@ -123,12 +123,12 @@ module _ (b : Bool) (w : ℕ) (k : Controls) {n : ℕ} (e : n ≡ carryRefusal w
 
 -- At width 64 every control bit is used, and every call is carried out.
 
-pub carry-whole : (f : ℕ → List ℕ → ℕ → ℕ) (k : Controls) (x : ℕ) → length (k .stages) ≡ 6 → ((i : ℕ) → getD (k .stages) i 0 < 2 ^ 32) → x < 2 ^ 64
-    → {w y : ℕ} → w ≡ 64 → y ≡ f 6 (k .stages) x → _≡_ {A = Carried} (record { refusal = 0; word = y }) (carryAnswer f w k x)
-carry-whole f k x n u h {w} e y =
+pub network-whole : (f : ℕ → List ℕ → ℕ → ℕ) (k : Controls) (x : ℕ) → length (k .stages) ≡ 6 → ((i : ℕ) → getD (k .stages) i 0 < 2 ^ 32) → x < 2 ^ 64
+    → {w y : ℕ} → w ≡ 64 → y ≡ f 6 (k .stages) x → _≡_ {A = Carried} (record { refusal = 0; word = y }) (networkAnswer f w k x)
+network-whole f k x n u h {w} e y =
     let used = each-fit 6 0 (k .stages) (λ i l. rw (zero-add i, lt-ltb i 6 (omega arith)) (u i)) in
-    let r = carry-refusal-by 64 (k .stages) x refl (lt-ltb x (2 ^ 64) h) used in
-    carry-done f 64 k x {n = 0} (sym r) refl {l = 6} refl y ∙ ap (λ (v : ℕ). carryAnswer f v k x) (sym e)
+    let r = network-refusal-by 64 (k .stages) x refl (lt-ltb x (2 ^ 64) h) used in
+    network-done f 64 k x {n = 0} (sym r) refl {l = 6} refl y ∙ ap (λ (v : ℕ). networkAnswer f v k x) (sym e)
 
 -- a call of the decoder
 

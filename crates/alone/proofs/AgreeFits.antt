@@ -18,11 +18,11 @@ use Rattle.routing.proofs.Flat.{butterfly-inverse, inverse-butterfly}
 use Rattle.routing.proofs.Alone.{tested-equal, equal-tested}
 use Rattle.routing.proofs.AloneWords.{butterfly-brings, inverse-brings, butterfly-only, inverse-only}
 use Rattle.alone.specs.declared.Found.{Found}
-use Rattle.alone.specs.Asked.{unasked, askedWord, Within, Every, stageAt, both, agree, stagesOf}
-use Rattle.alone.specs.Calls.{fits, alone, Answers}
+use Rattle.alone.specs.Asked.{unasked, askedWord, Within, Every, stageAt, both, agree, stageWords}
+use Rattle.alone.specs.Calls.{fitsAlone, alone, Answers}
 use Rattle.alone.proofs.Asking.{Routed, Free, asked-only, routed-free, free-routed}
-use Rattle.alone.proofs.Words.{apart-words, words-apart}
-use Rattle.alone.proofs.Steps.{crossed-lt}
+use Rattle.alone.proofs.AskedWords.{apart-words, words-apart}
+use Rattle.alone.proofs.OneRoute.{crossed-lt}
 
 stage-lt : (rising : Bool) (n i : ℕ) → i < n → stageAt rising n i < n
 stage-lt true n i l = l
@@ -120,14 +120,14 @@ module _
     routed-only :
         (c : ℕ → ℕ → Bool)
         → Routed places sources (2 ^ n) n c
-        → (fits rising n entries ≡ true) × (stagesOf rising n c ≡ alone rising n entries)
-    unfolding stagesOf
+        → (fitsAlone rising n entries ≡ true) × (stageWords rising n c ≡ alone rising n entries)
+    unfolding stageWords
     routed-only c routed = go rising linked
       where
         go :
             (b : Bool)
             → Linked b n entries places sources
-            → (fits b n entries ≡ true) × (stagesOf b n c ≡ alone b n entries)
+            → (fitsAlone b n entries ≡ true) × (stageWords b n c ≡ alone b n entries)
         go true k =
             inverse-only n entries is c
             (λ p l.
@@ -140,13 +140,13 @@ module _
     abbrev defined : Bool → ℕ → ℕ → Bool
     defined b = cond b (inverseFrom (inverseAlone n entries)) (butterflyFrom n (butterflyAlone n entries))
 
-    fits-routed : fits rising n entries ≡ true → Routed places sources (2 ^ n) n (defined rising)
+    fits-routed : fitsAlone rising n entries ≡ true → Routed places sources (2 ^ n) n (defined rising)
     fits-routed = go rising linked
       where
         go :
             (b : Bool)
             → Linked b n entries places sources
-            → fits b n entries ≡ true
+            → fitsAlone b n entries ≡ true
             → Routed places sources (2 ^ n) n (defined b)
         go true k e p l =
             ap (butterfly n (defined true)) (k p l .0 ∙ sym (inverse-brings n entries is e p l))
@@ -159,30 +159,30 @@ module _
         {r : Found}
         → Within (2 ^ n) places
         → Within (2 ^ n) sources
-        → Answers (agree rising n places sources) (stagesOf rising n (unasked true places sources (2 ^ n))) r
-        → Answers (fits rising n entries) (alone rising n entries) r
+        → Answers (agree rising n places sources) (stageWords rising n (unasked true places sources (2 ^ n))) r
+        → Answers (fitsAlone rising n entries) (alone rising n entries) r
     answer {r} u v f = go (agree rising n places sources) refl f
       where
-        none : fits rising n entries ≡ true → agree rising n places sources ≡ true
+        none : fitsAlone rising n entries ≡ true → agree rising n places sources ≡ true
         none e =
             free-agree rising n places sources
             (routed-free places sources (2 ^ n) n (defined rising) (fits-routed e))
 
-        turned-back : (d : Bool) → fits rising n entries ≡ d → agree rising n places sources ≡ false → d ≡ false
+        turned-back : (d : Bool) → fitsAlone rising n entries ≡ d → agree rising n places sources ≡ false → d ≡ false
         turned-back true e t = absurd (false≢true (sym t ∙ none e))
         turned-back false e t = refl
 
         go :
             (b : Bool)
             → agree rising n places sources ≡ b
-            → Answers b (stagesOf rising n (unasked true places sources (2 ^ n))) r
-            → Answers (fits rising n entries) (alone rising n entries) r
+            → Answers b (stageWords rising n (unasked true places sources (2 ^ n))) r
+            → Answers (fitsAlone rising n entries) (alone rising n entries) r
         go true t f =
             let s = routed-only (unasked true places sources (2 ^ n))
             (free-routed places sources n u v (agree-free rising n places sources u t))
             in
             rw (s .0, ← (s .1)) f
-        go false t f = rw (turned-back (fits rising n entries) refl t) f
+        go false t f = rw (turned-back (fitsAlone rising n entries) refl t) f
 
 module _ (n : ℕ) (h : n ≤ 6) (entries every : List ℕ) (is : ListPermutes (2 ^ n) entries) (all : Every every) where
   at-place : (p : ℕ) → p < 2 ^ n → entry every p ≡ p
@@ -197,15 +197,15 @@ module _ (n : ℕ) (h : n ≤ 6) (entries every : List ℕ) (is : ListPermutes (
   pub answer-inverse :
       {rising : Bool} {r : Found}
       → rising ≡ true
-      → Answers (agree true n entries every) (stagesOf true n (unasked true entries every (2 ^ n))) r
-      → Answers (fits rising n entries) (alone rising n entries) r
+      → Answers (agree true n entries every) (stageWords true n (unasked true entries every (2 ^ n))) r
+      → Answers (fitsAlone rising n entries) (alone rising n entries) r
   answer-inverse q f =
       rw q (answer true n entries entries every is (λ p l. (refl, at-place p l)) entries-within every-within f)
 
   pub answer-butterfly :
       {rising : Bool} {r : Found}
       → rising ≡ false
-      → Answers (agree false n every entries) (stagesOf false n (unasked true every entries (2 ^ n))) r
-      → Answers (fits rising n entries) (alone rising n entries) r
+      → Answers (agree false n every entries) (stageWords false n (unasked true every entries (2 ^ n))) r
+      → Answers (fitsAlone rising n entries) (alone rising n entries) r
   answer-butterfly q f =
       rw q (answer false n entries every entries is (λ p l. (at-place p l, refl)) every-within entries-within f)

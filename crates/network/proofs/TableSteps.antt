@@ -13,7 +13,7 @@ use lib.Seq.{getD-at}
 use Rattle.network.specs.Stage.{falling, rising}
 use Rattle.network.specs.Word.{spreadOf}
 use Rattle.network.proofs.Travel.{length-rising}
-use Rattle.network.proofs.Words.{spread-step}
+use Rattle.network.proofs.PairsExchanged.{spread-step}
 use Rattle.network.proofs.Table.{distanceTable, pairTable, distance-at, pair-at}
 
 pub distance-lt : (k : ℕ) → k < 6 → getD distanceTable k 0 < 64

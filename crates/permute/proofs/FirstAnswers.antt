@@ -10,7 +10,7 @@ use Rattle.network.specs.Calls.{six, controls}
 use Rattle.routing.specs.Lists.{firstWords}
 use Rattle.permute.specs.declared.Routed.{Routed}
 use Rattle.permute.specs.Calls.{routeRefusal, routeAnswer, AnswersFirst}
-use Rattle.permute.proofs.Calls.{route-within}
+use Rattle.permute.proofs.PermutationAnswers.{route-within}
 use Rattle.permute.proofs.Demand3.{demand-3-calls}
 
 module _ (w : ℕ) (es : List ℕ) where

@@ -12,10 +12,10 @@ use Rattle.bits.specs.Bit.{bit, ofBits, rank}
 use Rattle.bits.proofs.Word.{bit-lt, bit-shr, bit-shl-below, bit-shl-from, bit-and, bit-mod-two, bit-ofBits, bit-ones, bit-ones-above, ofBits-add, ofBits-lt, ext}
 use Rattle.bits.proofs.Rank.{rank-rest}
 use Rattle.network.specs.Stage.{falling}
-use Rattle.network.specs.Decoder.{turn, turned, controlAt, column, decodeOf}
+use Rattle.network.specs.Decoder.{turn, turned, controlAt, decodedStage, decodeOf}
 use Rattle.network.proofs.Turn.{turned-bit}
 use Rattle.network.proofs.Travel.{length-falling}
-use Rattle.network.proofs.Steps.{falling-at}
+use Rattle.network.proofs.TableSteps.{falling-at}
 use Rattle.network.proofs.Filling.{map-at}
 
 pub shl-one : (k : ℕ) → k < 64 → 1 * 2 ^ k % 2 ^ 64 ≡ 2 ^ k
@@ -136,12 +136,12 @@ module _ (L i : ℕ) (h : i < L) (l : L ≤ 6) where
   stage-size = (rw (distance-is, falling-at L i h) (pow-pos (L - 1 - i)), omega (arith, switches, pow-mono l))
 
   pub decoded-at : (m : ℕ) {v : ℕ} → v ≡ ofBits (distance * blocks) (controlAt distance m) → v ≡ getD (decodeOf L m) i 0
-  unfolding decodeOf column
+  unfolding decodeOf decodedStage
   decoded-at m e =
       e
       ∙ ap (λ (n : ℕ). ofBits n (controlAt distance m)) switches
       ∙ ap (λ (d : ℕ). ofBits (2 ^ L / 2) (controlAt d m)) distance-is
-      ∙ sym (map-at (column (2 ^ L) m) (falling L) i (omega (arith, length-falling L)))
+      ∙ sym (map-at (decodedStage (2 ^ L) m) (falling L) i (omega (arith, length-falling L)))
 
   pub decoded-lt : (m : ℕ) → ofBits (distance * blocks) (controlAt distance m) < 2 ^ 32
   decoded-lt m = omega (arith, ofBits-lt (distance * blocks) (controlAt distance m), pow-mono (stage-size .1))

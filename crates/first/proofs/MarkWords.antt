@@ -11,12 +11,12 @@ use lib.Pow.{pow-mono}
 use lib.ListN.{length, getD}
 use Rattle.routing.specs.Stages.{Stage, Butterfly, Inverse}
 use Rattle.routing.specs.Lists.{wordOf, butterflyWords, inverseWords, Words, wordsOf}
-use Rattle.routing.proofs.Words.{word-small}
-use Rattle.first.specs.Marks.{swaps, row, swapsFrom, controlsIn}
+use Rattle.routing.proofs.StageWords.{word-small}
+use Rattle.first.specs.Marks.{markSwaps, row, swapsFrom, controlsIn}
 
 -- a control bit brought to its switch
-shifted : (m s : ℕ) → s < 32 → m % 2 * 2 ^ s % 2 ^ 64 ≡ cond (swaps m) 0 (2 ^ s)
-unfolding swaps
+shifted : (m s : ℕ) → s < 32 → m % 2 * 2 ^ s % 2 ^ 64 ≡ cond (markSwaps m) 0 (2 ^ s)
+unfolding markSwaps
 shifted m s l = go (m % 2) (mod-lt m (omega arith))
   where
     small : 2 ^ s < 2 ^ 64
@@ -86,7 +86,7 @@ module _ (marks : List ℕ) (log : ℕ) (some : 0 < log) where
       (fun-ext
       (λ s.
       let i : r + s ≡ row c + 0 + s = omega arith in
-      ap (λ (i : ℕ). swaps (getD marks i 0)) i))
+      ap (λ (i : ℕ). markSwaps (getD marks i 0)) i))
 
   pub butterfly-count : length (both .butterfly) ≡ log
   unfolding wordsOf

@@ -13,7 +13,7 @@ use Rattle.bits.specs.Refusal.{lowest, IsLowest}
 use Rattle.bits.proofs.Refusals.{lowest-law}
 use Rattle.pack.specs.declared.Packed.{Packed}
 use Rattle.pack.specs.Fields.{upTo, needed, cut, scatteredAt, unpackInto}
-use Rattle.pack.specs.Calls.{conditionsOf, refusalOf, answerOf, leftOf}
+use Rattle.pack.specs.Calls.{fieldsConditions, fieldsRefusal, fieldsAnswer, leftOf}
 
 -- the count of bits fits
 pub bits-le : {k d : ℕ} → k ≤ 64 → d ≤ 2048 → k * d ≤ 131072
@@ -33,16 +33,16 @@ pub record Within (k a b own other : ℕ) : Type 0 where
 
 module _ (k a b own other : ℕ) where
   refusal-by : (p q r s t : Bool) → ltb b a ≡ p → ltb own b ≡ q → ltb 2048 own ≡ r → ltb 2048 other ≡ s → ltb other (needed (k * (b - a))) ≡ t
-      → refusalOf k a b own other ≡ byTests p q r s t
-  unfolding refusalOf
+      → fieldsRefusal k a b own other ≡ byTests p q r s t
+  unfolding fieldsRefusal
   refusal-by p q r s t e f g h i = rw (e, f, g, h, i)
 
   -- demand 1, of pack and unpack
-  pub refusal-lowest : IsLowest (conditionsOf k a b own other) (refusalOf k a b own other)
-  unfolding refusalOf
-  refusal-lowest = lowest-law (conditionsOf k a b own other) (omega arith)
+  pub refusal-lowest : IsLowest (fieldsConditions k a b own other) (fieldsRefusal k a b own other)
+  unfolding fieldsRefusal
+  refusal-lowest = lowest-law (fieldsConditions k a b own other) (omega arith)
 
-  pub within : refusalOf k a b own other ≡ 0 → Within k a b own other
+  pub within : fieldsRefusal k a b own other ≡ 0 → Within k a b own other
   within e =
       by-tests (ltb b a) (ltb own b) (ltb 2048 own) (ltb 2048 other) (ltb other (needed (k * (b - a)))) refl refl refl refl refl
       (sym (refusal-by _ _ _ _ _ refl refl refl refl refl) ∙ e)
@@ -63,55 +63,55 @@ module _ (k a b own other : ℕ) where
       }
 
   -- the outcome, by the first test that applies
-  pub by-order : b < a → 9 ≡ refusalOf k a b own other
+  pub by-order : b < a → 9 ≡ fieldsRefusal k a b own other
   by-order h = sym (refusal-by true _ _ _ _ (lt-ltb b a h) refl refl refl refl)
 
-  pub by-end : a ≤ b → own < b → 9 ≡ refusalOf k a b own other
+  pub by-end : a ≤ b → own < b → 9 ≡ fieldsRefusal k a b own other
   by-end h l = sym (refusal-by false true _ _ _ (le-ltb b a h) (lt-ltb own b l) refl refl refl)
 
-  pub by-own : a ≤ b → b ≤ own → 2048 < own → 9 ≡ refusalOf k a b own other
+  pub by-own : a ≤ b → b ≤ own → 2048 < own → 9 ≡ fieldsRefusal k a b own other
   by-own h l m = sym (refusal-by false false true _ _ (le-ltb b a h) (le-ltb own b l) (lt-ltb 2048 own m) refl refl)
 
   module _ (h : a ≤ b) (l : b ≤ own) (m : own ≤ 2048) where
-    pub by-other : 2048 < other → 9 ≡ refusalOf k a b own other
+    pub by-other : 2048 < other → 9 ≡ fieldsRefusal k a b own other
     by-other n = sym (refusal-by false false false true _ (le-ltb b a h) (le-ltb own b l) (le-ltb 2048 own m) (lt-ltb 2048 other n) refl)
 
-    by-need : {t : Bool} → other ≤ 2048 → ltb other (needed (k * (b - a))) ≡ t → byTests false false false false t ≡ refusalOf k a b own other
+    by-need : {t : Bool} → other ≤ 2048 → ltb other (needed (k * (b - a))) ≡ t → byTests false false false false t ≡ fieldsRefusal k a b own other
     by-need n e = sym (refusal-by false false false false _ (le-ltb b a h) (le-ltb own b l) (le-ltb 2048 own m) (le-ltb 2048 other n) e)
 
-    pub by-short : other ≤ 2048 → other < needed (k * (b - a)) → 10 ≡ refusalOf k a b own other
+    pub by-short : other ≤ 2048 → other < needed (k * (b - a)) → 10 ≡ fieldsRefusal k a b own other
     by-short n s = by-need n (lt-ltb other (needed (k * (b - a))) s)
 
-  pub by-none : Within k a b own other → 0 ≡ refusalOf k a b own other
+  pub by-none : Within k a b own other → 0 ≡ fieldsRefusal k a b own other
   by-none w = by-need (w .order) (w .end) (w .own-limit) (w .other-limit) (le-ltb other (needed (k * (b - a))) (w .room))
 
   -- the answer's first number is the refusal
-  pub answer-refusal : answerOf k a b own other .refusal ≡ refusalOf k a b own other
-  unfolding answerOf
-  answer-refusal = by-number (refusalOf k a b own other)
+  pub answer-refusal : fieldsAnswer k a b own other .refusal ≡ fieldsRefusal k a b own other
+  unfolding fieldsAnswer
+  answer-refusal = by-number (fieldsRefusal k a b own other)
     where
       by-number : (r : ℕ) → cond {A = Packed} (eqb r 0) (record { refusal = 0; bits = k * (b - a) }) (record { refusal = r; bits = 0 }) .refusal ≡ r
       by-number zero = refl
       by-number (suc r) = rw (ne-eqb (suc r) 0 (λ e. omega arith))
 
   -- demand 1, of the answer
-  pub answer-lowest : IsLowest (conditionsOf k a b own other) (answerOf k a b own other .refusal)
+  pub answer-lowest : IsLowest (fieldsConditions k a b own other) (fieldsAnswer k a b own other .refusal)
   answer-lowest = rw answer-refusal refusal-lowest
 
   -- bits answered: k times the number of fields
-  pub answer-bits : answerOf k a b own other .refusal ≡ 0 → answerOf k a b own other .bits ≡ k * (b - a)
-  unfolding answerOf
-  answer-bits h = rw (eq-eqb (refusalOf k a b own other) 0 (sym answer-refusal ∙ h))
+  pub answer-bits : fieldsAnswer k a b own other .refusal ≡ 0 → fieldsAnswer k a b own other .bits ≡ k * (b - a)
+  unfolding fieldsAnswer
+  answer-bits h = rw (eq-eqb (fieldsRefusal k a b own other) 0 (sym answer-refusal ∙ h))
 
   -- the code's answer
 
-  module _ {n : ℕ} (e : n ≡ refusalOf k a b own other) where
-    pub answer-refused : (n ≡ 0 → ⊥) → _≡_ {A = Packed} (record { refusal = n; bits = 0 }) (answerOf k a b own other)
-    unfolding answerOf
+  module _ {n : ℕ} (e : n ≡ fieldsRefusal k a b own other) where
+    pub answer-refused : (n ≡ 0 → ⊥) → _≡_ {A = Packed} (record { refusal = n; bits = 0 }) (fieldsAnswer k a b own other)
+    unfolding fieldsAnswer
     answer-refused z = rw (← e, ne-eqb n 0 z)
 
-    pub answer-done : n ≡ 0 → _≡_ {A = Packed} (record { refusal = 0; bits = k * (b - a) }) (answerOf k a b own other)
-    unfolding answerOf
+    pub answer-done : n ≡ 0 → _≡_ {A = Packed} (record { refusal = 0; bits = k * (b - a) }) (fieldsAnswer k a b own other)
+    unfolding fieldsAnswer
     answer-done z = rw (← e, eq-eqb n 0 z)
 
     -- the count of bits fits
@@ -119,23 +119,23 @@ module _ (k a b own other : ℕ) where
     bits-fit h z = let w = within (sym e ∙ z) in bits-le h (omega (arith, w .end, w .own-limit))
 
   -- what a call answers and leaves, from the answer for fields of as many bits as the code counted
-  module _ {size : ℕ} {r : Packed} (s : size ≡ k) (e : r ≡ answerOf size a b own other) where
-    answered : r ≡ answerOf k a b own other
-    answered = e ∙ ap (λ (j : ℕ). answerOf j a b own other) s
+  module _ {size : ℕ} {r : Packed} (s : size ≡ k) (e : r ≡ fieldsAnswer size a b own other) where
+    answered : r ≡ fieldsAnswer k a b own other
+    answered = e ∙ ap (λ (j : ℕ). fieldsAnswer j a b own other) s
 
-    number : r .refusal ≡ refusalOf k a b own other
+    number : r .refusal ≡ fieldsRefusal k a b own other
     number = ap (λ (p : Packed). p .refusal) answered ∙ answer-refusal
 
     pub limits : r .refusal ≡ 0 → Within k a b own other
     limits z = within (sym number ∙ z)
 
     module _ (done out : List ℕ) where
-      pub refused : (r .refusal ≡ 0 → ⊥) → (r ≡ answerOf k a b own other) × (out ≡ leftOf k a b own other done out)
+      pub refused : (r .refusal ≡ 0 → ⊥) → (r ≡ fieldsAnswer k a b own other) × (out ≡ leftOf k a b own other done out)
       unfolding leftOf
       refused z = (answered, rw (← number, ne-eqb (r .refusal) 0 z))
 
       pub carried-out : r .refusal ≡ 0 → {left : List ℕ} → left ≡ done
-          → (r ≡ answerOf k a b own other) × (left ≡ leftOf k a b own other done out)
+          → (r ≡ fieldsAnswer k a b own other) × (left ≡ leftOf k a b own other done out)
       unfolding leftOf
       carried-out z l = (answered, rw (← number, eq-eqb (r .refusal) 0 z) l)
 

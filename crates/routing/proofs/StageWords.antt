@@ -10,12 +10,12 @@ use native.Mathlib.Nat.{add-zero, div-eq-of-lt, add-div-right}
 use lib.Dec.{eqb}
 use lib.Pow.{pow-pos, pow-add}
 use lib.ListN.{getD}
-use Rattle.routing.specs.Stages.{Butterfly, Inverse, Controls, InRange, Same, Agree}
+use Rattle.routing.specs.Stages.{Butterfly, Inverse, StageControls, InRange, Same, Agree}
 use Rattle.routing.specs.FirstControls.{IsFirst}
 use Rattle.routing.specs.Lists.{entry, ListPermutes, controlsOf, wordOf, controlIn, butterflyWords, inverseWords, butterflyFrom, inverseFrom, wordsOf, fromWords, firstWords}
 use Rattle.routing.proofs.Through.{digit-offset}
 use Rattle.routing.proofs.FirstControls.{first-cong, first-unique}
-use Rattle.routing.proofs.Lists.{list-first}
+use Rattle.routing.proofs.ListControls.{list-first}
 
 pub word-small : (k : ℕ) (c : ℕ → Bool) → wordOf k c < 2 ^ k
 unfolding wordOf
@@ -116,7 +116,7 @@ inverse-words n c e s i =
     (ap (λ (x : ℕ). controlIn x s) (inverse-word w 0 n c e e (omega arith) (i .at-stage))
     ∙ control-word w (c e) s (switch-small n e s i))
 
-pub words-agree : (n : ℕ) (C : Controls) → Agree n C (fromWords n (wordsOf n C))
+pub words-agree : (n : ℕ) (C : StageControls) → Agree n C (fromWords n (wordsOf n C))
 unfolding wordsOf
 words-agree n C (Butterfly e) s i = butterfly-words n (λ e. C (Butterfly e)) e s i
 words-agree n C (Inverse e) s i = inverse-words n (λ e. C (Inverse e)) e s i
@@ -154,7 +154,7 @@ pub inverse-words-cong :
 inverse-words-cong n c d same =
     inverse-stages-cong (2 ^ n / 2) 0 n c d (λ e s h l. same e s (switch-in n e s (omega arith) l))
 
-pub words-cong : (n : ℕ) (C D : Controls) → Agree n C D → wordsOf n C ≡ wordsOf n D
+pub words-cong : (n : ℕ) (C D : StageControls) → Agree n C D → wordsOf n C ≡ wordsOf n D
 unfolding wordsOf
 words-cong n C D agree = λ i.
     record {
@@ -174,7 +174,7 @@ first-words n entries is =
 pub first-words-unique :
     (n : ℕ) (entries : List ℕ)
     → ListPermutes (2 ^ n) entries
-    → (C : Controls)
+    → (C : StageControls)
     → IsFirst n C (entry entries)
     → wordsOf n C ≡ firstWords n entries
 unfolding firstWords

@@ -7,15 +7,15 @@ use mathlib.Core.Bool.{Bool, true, not}
 use Prim.Native.Nat.{ℕ, suc, _+_, _%_, _^_, _<_}
 use lib.Dec.{leb}
 use Rattle.routing.specs.Place.{Place, weight, num, place}
-use Rattle.routing.specs.Loop.{Maps, IsPermutation, pass, flip, turn, turns}
-use Rattle.routing.specs.Marks.{Mark, unset, set, Marks, Marked}
+use Rattle.routing.specs.Loop.{Maps, IsPermutation, pass, flip, loopTurn, loopTurns}
+use Rattle.routing.specs.Marks.{Mark, unset, set, Marks, SetTo}
 use Rattle.routing.specs.FirstControls.{Permutes, onPlaces}
 use Rattle.routing.specs.Level.{other, firstSwap, lastSwap, Sets}
 use Rattle.routing.proofs.Stage.{not-not, flip-switch}
 use Rattle.routing.proofs.Loop.{Numbered, turns-suc}
 use Rattle.routing.proofs.Walk.{Settled, settled-start, settled-skip, settled-end, Walk, stand, walk-start, walk-step, walk-end, walk-next, given-not-unset}
 use Rattle.routing.proofs.Feed.{Fed, Feeding, feed-start, feed-step, feed-end, fed-end}
-use Rattle.routing.proofs.Places.{num-lt, num-place, place-num, numbered}
+use Rattle.routing.proofs.PlaceNumbers.{num-lt, num-place, place-num, numbered}
 use Rattle.routing.proofs.FirstControls.{on-places}
 use Rattle.routing.proofs.Level.{num-switch, num-half, num-flip}
 
@@ -26,7 +26,7 @@ marked :
     (n : ℕ) (M M′ : ℕ → Mark) (v : Bool) (s : ℕ) (q : Place n)
     → num n q ≡ s
     → Sets n M s v M′
-    → Marked (marks n M) q v (marks n M′)
+    → SetTo (marks n M) q v (marks n M′)
 marked n M M′ v s q e d =
     record {
       here = ap M′ e ∙ d .here;
@@ -124,7 +124,7 @@ module _ (n : ℕ) (π ρ : ℕ → ℕ) (perm : Permutes (2 ^ suc n) π ρ) whe
       → M s ≡ unset
       → Sets n M s pass M′
       → At s (2 ^ n + s) M′ G
-  unfolding num weight turns
+  unfolding num weight loopTurns
   at-start s M G M′ l d e sets =
       let q = num-place n s l in
       record {
@@ -159,7 +159,7 @@ module _ (n : ℕ) (π ρ : ℕ → ℕ) (perm : Permutes (2 ^ suc n) π ρ) whe
         walk = a .walk;
         feed =
             feed-step K m ok (a .walk) (a .feed)
-            (subst (λ (v : Bool). Marked (marks n G) (m .from x .1) v (marks n G′)) h
+            (subst (λ (v : Bool). SetTo (marks n G) (m .from x .1) v (marks n G′)) h
             (marked n G G′ (not (leb (2 ^ n) (ρ y))) (ρ y % 2 ^ n) (m .from x .1)
             (num-switch n (m .from x) ∙ ap (λ (z : ℕ). z % 2 ^ n) p) sets));
         stands = a .stands;
@@ -185,7 +185,7 @@ module _ (n : ℕ) (π ρ : ℕ → ℕ) (perm : Permutes (2 ^ suc n) π ρ) whe
         ∙ ap π (num-flip n (m .from here) ∙ ap (other n) (num-from here ∙ ap ρ (a .stands)))
 
     next-is : ahead ≡ flip meets
-    unfolding turn
+    unfolding loopTurn
     next-is = turns-suc m ok (a .done) (true, place n s)
 
     next-switch : num n (ahead .1) ≡ next % 2 ^ n
@@ -232,7 +232,7 @@ module _ (n : ℕ) (π ρ : ℕ → ℕ) (perm : Permutes (2 ^ suc n) π ρ) whe
           done = suc (a .done);
           walk =
               walk-step K m ok (a .walk) (next-other ne)
-              (subst (λ (v : Bool). Marked (marks n M) (ahead .1) v (marks n M′)) next-half
+              (subst (λ (v : Bool). SetTo (marks n M) (ahead .1) v (marks n M′)) next-half
               (marked n M M′ (leb (2 ^ n) next) (next % 2 ^ n) (ahead .1) next-switch sets));
           feed = a .feed;
           stands = ap (num (suc n)) next-is ∙ num-flip n meets ∙ ap (other n) meets-is;

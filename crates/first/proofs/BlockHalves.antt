@@ -8,16 +8,16 @@ use native.Mathlib.Omega.{arith}
 use lib.ListN.{getD}
 use Rattle.routing.specs.Place.{weight}
 use Rattle.routing.specs.Net.{firstNet}
-use Rattle.routing.specs.Stages.{Stage, Butterfly, Inverse, exponent, Controls}
+use Rattle.routing.specs.Stages.{Stage, Butterfly, Inverse, exponent, StageControls}
 use Rattle.routing.specs.FirstControls.{Permutes, onPlaces}
 use Rattle.routing.specs.Level.{firstSwap, lastSwap, halfTo, halfFrom}
 use Rattle.routing.proofs.Through.{within}
-use Rattle.routing.proofs.Steps.{Set, done-end}
+use Rattle.routing.proofs.WalkSteps.{Set, done-end}
 use Rattle.routing.proofs.FirstControls.{on-places-cong, reads-net-cong}
 use Rattle.routing.proofs.Leads.{ReadsNet}
 use Rattle.routing.proofs.Level.{ReadsFirst, reads-none, half-permutes, reads-step}
-use Rattle.first.specs.Marks.{swaps, markOf, row, marksAt, swapsFrom, controlsIn, InOuter, InBlock, Kept}
-use Rattle.first.specs.Blocks.{placeIn, BlockPermutes, PlacesKept, Peeled, Routable, Routed}
+use Rattle.first.specs.Marks.{markSwaps, markOf, row, marksAt, swapsFrom, controlsIn, InOuter, InBlock, Kept}
+use Rattle.first.specs.Blocks.{placeIn, BlockPermutes, PlacesKept, Peeled, Routable, BlockRouted}
 use Rattle.first.proofs.Storing.{mark-swaps}
 use Rattle.first.proofs.Walking.{kept-at}
 
@@ -93,7 +93,7 @@ module _
         (λ q l. fs q (rw ek l) ∙ p .from-halved .halves h q (rw ek l))
 
     -- one stage: nothing is left between the outer ones
-    pub route-last : e ≡ 0 → Routed e b to from marks to₁ from₁ marks₁
+    pub route-last : e ≡ 0 → BlockRouted e b to from marks to₁ from₁ marks₁
     route-last z =
         record {
           long = p .stepped .settled .long;
@@ -107,7 +107,7 @@ module _
           from-kept = p .from-halved .kept;
         }
       where
-        none : (C : Controls) (α β : ℕ → ℕ) → ReadsFirst e C α β
+        none : (C : StageControls) (α β : ℕ → ℕ) → ReadsFirst e C α β
         none C α β = subst (λ (j : ℕ). ReadsFirst j C α β) (sym z) (reads-none C α β)
 
     module _ (k : ℕ) (ek : e ≡ suc k) where
@@ -156,14 +156,14 @@ module _
           reads-net-cong e (within e h C) (controlsIn b′ marks′) (firstNet e (onPlaces e (halfTo e π g h) (halfFrom e ρ f h)))
           (λ c s i.
           subst (λ (j : ℕ). within j h C c s ≡ C c (weight h k + s)) (sym ek) refl
-          ∙ ap swaps (same c s (omega (arith, i .at-stage)) (omega (arith, i .switch, two))))
+          ∙ ap markSwaps (same c s (omega (arith, i .at-stage)) (omega (arith, i .switch, two))))
           (subst (ReadsNet e (controlsIn b′ marks′)) (ap (firstNet e) maps) here)
 
       module _
           (b′ : ℕ)
           (bq : b′ ≡ b + 2 ^ k)
           (to₂ from₂ marks₂ : List ℕ)
-          (lower : Routed k b to₁ from₁ marks₁ to₂ from₂ marks₂)
+          (lower : BlockRouted k b to₁ from₁ marks₁ to₂ from₂ marks₂)
         where
           high :
               (l l′ : List ℕ)
@@ -201,13 +201,13 @@ module _
                     });
               }
 
-          module _ (to₃ from₃ marks₃ : List ℕ) (upper : Routed k b′ to₂ from₂ marks₂ to₃ from₃ marks₃) where
+          module _ (to₃ from₃ marks₃ : List ℕ) (upper : BlockRouted k b′ to₂ from₂ marks₂ to₃ from₃ marks₃) where
             outer-same :
                 (c : Stage) (s : ℕ) → exponent c ≡ e → s < 2 ^ e → controlsIn b marks₃ c s ≡ controlsIn b marks₁ c s
             outer-same c s ce l =
                 let he : exponent c < 6 = omega (arith, r .fits .stage) in
                 let hs : b + s < 32 = omega (arith, r .fits .room) in
-                ap swaps
+                ap markSwaps
                 (kept-at (InBlock k b′) c b s marks₂ marks₃ (upper .kept) he hs (λ o. absurd (omega (arith, o .inner)))
                 ∙ kept-at (InBlock k b) c b s marks₁ marks₂ (lower .kept) he hs (λ o. absurd (omega (arith, o .inner))))
 
@@ -246,7 +246,7 @@ module _
                 ∙ x i out
 
             -- both halves routed, the block is
-            pub route-halves : Routed e b to from marks to₃ from₃ marks₃
+            pub route-halves : BlockRouted e b to from marks to₃ from₃ marks₃
             route-halves =
                 record {
                   long = upper .long;

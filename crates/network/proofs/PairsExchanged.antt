@@ -1,4 +1,4 @@
--- A stage on a whole word: pairs exchanged under a word of swaps, and a column spread to the lower places of its pairs. Assumes nothing.
+-- A stage on a whole word: pairs exchanged under a word of swaps, and the control bits of a stage spread to the lower places of its pairs. Assumes nothing.
 use mathlib.Core.Path.{_≡_, refl, sym, _∙_, ap}
 use mathlib.Core.Logic.{_⊎_, inl, inr}
 use mathlib.Core.Bool.{Bool, cond}
@@ -156,7 +156,7 @@ spread-lt : (d c : ℕ) → spreadOf d c < 2 ^ 64
 unfolding spreadOf
 spread-lt d c = lower-lt d (λ p. bit c (switchOf d p))
 
--- at distance 32 the column stands at its lower places already
+-- at distance 32 the control bits stand at its lower places already
 pub spread-none : {c : ℕ} → c < 2 ^ 32 → spreadOf 32 c ≡ c
 spread-none {c} h = ext 64 (spread-lt 32 c) (omega arith) (on-places {d = 32} (omega arith) _ at)
   where
