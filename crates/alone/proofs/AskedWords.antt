@@ -12,27 +12,11 @@ use lib.ListN.{length, getD}
 use lib.Pow.{pow-pos, pow-lt}
 use borrow.Author.Tests.{eqb-true, eqb-false}
 use Rattle.bits.specs.Bit.{bit}
-use Rattle.bits.proofs.Word.{bit-of-zero, bit-and, bit-or, bit-shl-low, bit-shl-high, bit-above, ext}
+use Rattle.bits.proofs.Word.{bit-of-zero, bit-and, bit-or, bit-pow, ext}
 use Rattle.routing.specs.Loop.{pass}
 use Rattle.routing.specs.Lists.{wordOf, butterflyWords, inverseWords}
-use Rattle.routing.proofs.StageWords.{word-small, word-bit}
+use Rattle.routing.proofs.StageWords.{word-small, word-bit, length-butterfly, length-inverse, butterfly-word, inverse-word}
 use Rattle.alone.specs.Asked.{crossed, asks, asked, stageAt, stageWords}
-
-power-bit : (s i : ℕ) → bit (2 ^ s) i ≡ cond (eqb i s) 1 0
-unfolding bit
-power-bit s i = go (eqb i s) refl
-  where
-    one : 2 ^ s ≡ 1 * 2 ^ s
-    one = sym (one-mul (2 ^ s))
-
-    beside : (i ≡ s → ⊥) → Dec (i < s) → bit (2 ^ s) i ≡ 0
-    beside n (yes l) = ap (λ (x : ℕ). bit x i) one ∙ bit-shl-low 1 s i l
-    beside n (no g) = let h : suc s ≤ i = omega arith in bit-above {w = suc s} i (pow-lt (omega arith)) h
-
-    go : (b : Bool) → eqb i s ≡ b → bit (2 ^ s) i ≡ cond b 1 0
-    go true t =
-        ap₂ bit one (eqb-true i s t ∙ sym (add-zero s)) ∙ bit-shl-high 1 s 0
-    go false t = beside (eqb-false i s t) (decLt i s)
 
 -- one switch more that passes
 or-pass :
@@ -44,7 +28,7 @@ or-pass w s c h =
     ext w (or-lt w (wordOf w c) (2 ^ s) (word-small w c) (pow-lt h)) (word-small w d)
     (λ i l.
     bit-or (wordOf w c) (2 ^ s) i
-    ∙ ap₂ max (word-bit w c i l) (power-bit s i)
+    ∙ ap₂ max (word-bit w c i l) (bit-pow s i)
     ∙ go (c i) (eqb i s)
     ∙ sym (word-bit w d i l))
   where
@@ -97,36 +81,10 @@ module _ (w : ℕ) (c d : ℕ → Bool) where
 
 -- the stages in the direction of travel
 
-butterfly-stage : (w n : ℕ) (c : ℕ → ℕ → Bool) (i : ℕ) → i < n → getD (butterflyWords w n c) i 0 ≡ wordOf w (c (n - 1 - i))
-unfolding butterflyWords
-butterfly-stage w zero c i h = absurd (omega arith)
-butterfly-stage w (suc n) c zero h = let q : n ≡ suc n - 1 - 0 = omega arith in ap (λ (e : ℕ). wordOf w (c e)) q
-butterfly-stage w (suc n) c (suc i) h =
-    let q : n - 1 - i ≡ suc n - 1 - suc i = omega arith in
-    butterfly-stage w n c i (omega arith) ∙ ap (λ (e : ℕ). wordOf w (c e)) q
-
-inverse-stage : (w e n : ℕ) (c : ℕ → ℕ → Bool) (i : ℕ) → i < n → getD (inverseWords w e n c) i 0 ≡ wordOf w (c (e + i))
-unfolding inverseWords
-inverse-stage w e zero c i h = absurd (omega arith)
-inverse-stage w e (suc n) c zero h = let q : e ≡ e + 0 = omega arith in ap (λ (d : ℕ). wordOf w (c d)) q
-inverse-stage w e (suc n) c (suc i) h =
-    let q : suc e + i ≡ e + suc i = omega arith in
-    inverse-stage w (suc e) n c i (omega arith) ∙ ap (λ (d : ℕ). wordOf w (c d)) q
-
-butterfly-length : (w n : ℕ) (c : ℕ → ℕ → Bool) → length (butterflyWords w n c) ≡ n
-unfolding butterflyWords
-butterfly-length w zero c = refl
-butterfly-length w (suc n) c = ap suc (butterfly-length w n c)
-
-inverse-length : (w e n : ℕ) (c : ℕ → ℕ → Bool) → length (inverseWords w e n c) ≡ n
-unfolding inverseWords
-inverse-length w e zero c = refl
-inverse-length w e (suc n) c = ap suc (inverse-length w (suc e) n c)
-
 pub length-stages : (rising : Bool) (n : ℕ) (c : ℕ → ℕ → Bool) → length (stageWords rising n c) ≡ n
 unfolding stageWords
-length-stages true n c = inverse-length (2 ^ n / 2) 0 n c
-length-stages false n c = butterfly-length (2 ^ n / 2) n c
+length-stages true n c = length-inverse (2 ^ n / 2) 0 n c
+length-stages false n c = length-butterfly (2 ^ n / 2) n c
 
 pub stage-word :
     (rising : Bool) (n : ℕ) (c : ℕ → ℕ → Bool) (i : ℕ) {e v : ℕ}
@@ -138,7 +96,5 @@ unfolding stageWords
 stage-word rising n c i h q f = f ∙ ap (λ (e : ℕ). wordOf (2 ^ n / 2) (c e)) q ∙ go rising
   where
     go : (b : Bool) → wordOf (2 ^ n / 2) (c (stageAt b n i)) ≡ getD (stageWords b n c) i 0
-    go true =
-        let z : i ≡ 0 + i = omega arith in
-        ap (λ (e : ℕ). wordOf (2 ^ n / 2) (c e)) z ∙ sym (inverse-stage (2 ^ n / 2) 0 n c i h)
-    go false = sym (butterfly-stage (2 ^ n / 2) n c i h)
+    go true = sym (inverse-word (2 ^ n / 2) 0 n c i i (omega arith) h)
+    go false = sym (butterfly-word (2 ^ n / 2) n c i (n - 1 - i) (omega arith))

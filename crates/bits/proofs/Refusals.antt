@@ -1,7 +1,7 @@
 -- Laws of widths and refusals. Assumes nothing.
-use mathlib.Core.Path.{_≡_, refl, sym, _∙_, ap}
+use mathlib.Core.Path.{_≡_, refl, sym, _∙_, ap, subst}
 use mathlib.Core.Logic.{_⊎_, inl, inr}
-use mathlib.Core.Bool.{Bool, true, false, cond, not, true≢false}
+use mathlib.Core.Bool.{Bool, true, false, cond, not, _||_, true≢false}
 use mathlib.Core.List.{List, [], _∷_}
 use Prim.Native.Nat.{ℕ, _/_, _^_, _<_, _≤_}
 use native.Mathlib.Omega.{arith}
@@ -10,7 +10,7 @@ use native.Mathlib.Nat.{div-eq-of-lt, div-lt-iff-lt-mul}
 use lib.Dec.{eqb, ltb}
 use lib.Pow.{pow-pos, pow-mono}
 use borrow.Author.Tests.{lt-ltb, le-ltb, eq-eqb, ne-eqb, eqb-true}
-use Rattle.bits.specs.Refusal.{logs, logIn, logOf, accepted, fits, lowest, Applies, Rising, IsLowest}
+use Rattle.bits.specs.Refusal.{logs, logIn, logOf, accepted, fits, lowest, Applies, Rising, IsLowest, AnswersLowest}
 
 -- `lowest` is what demand 1 asks: the lowest number that applies
 
@@ -42,6 +42,38 @@ lowest-from b (c ∷ cs) r = lowest-of (c .0) (c .1) cs (r .1) (lowest-from (c .
 
 pub lowest-law : (cs : List (ℕ × Bool)) → Rising 0 cs → IsLowest cs (lowest cs)
 lowest-law cs r = lowest-from 0 cs r
+
+-- and so does each call that answers by its lowest refusal
+pub answers-lowest : {A : Type 0} (cs : List (ℕ × Bool)) → Rising 0 cs → (number : A → ℕ) (refused : ℕ → A) (done : A) → number done ≡ 0
+    → ((n : ℕ) → number (refused n) ≡ n) → AnswersLowest cs number refused (cond (eqb (lowest cs) 0) done (refused (lowest cs)))
+answers-lowest cs r number refused done d e = by-test (eqb (lowest cs) 0) (eqb-true (lowest cs) 0)
+  where
+    by-test : (b : Bool) → (b ≡ true → lowest cs ≡ 0) → AnswersLowest cs number refused (cond b done (refused (lowest cs)))
+    by-test true f =
+        record { least = subst (IsLowest cs) (f refl ∙ sym d) (lowest-law cs r); zeros = λ z. absurd (z d) }
+    by-test false f =
+        record { least = subst (IsLowest cs) (sym (e (lowest cs))) (lowest-law cs r); zeros = λ z. ap refused (sym (e (lowest cs))) }
+
+-- of a call that is carried out no condition holds
+abbrev pub NoneApplies : List (ℕ × Bool) → Type 0
+NoneApplies [] = Unit
+NoneApplies (c ∷ cs) = (c .1 ≡ false) × NoneApplies cs
+
+none-from : (b : ℕ) (cs : List (ℕ × Bool)) → Rising b cs → lowest cs ≡ 0 → NoneApplies cs
+none-from b [] r e = tt
+none-from b (c ∷ cs) r e = by-test (c .1) refl e (none-from (c .0) cs (r .1))
+  where
+    by-test : (t : Bool) → c .1 ≡ t → cond t (c .0) (lowest cs) ≡ 0 → (lowest cs ≡ 0 → NoneApplies cs) → NoneApplies (c ∷ cs)
+    by-test true q z f = absurd (omega (arith, r .0, z))
+    by-test false q z f = (q, f z)
+
+pub none-applies : (cs : List (ℕ × Bool)) → Rising 0 cs → lowest cs ≡ 0 → NoneApplies cs
+none-applies cs r e = none-from 0 cs r e
+
+-- neither of two conditions under one number
+pub neither : (a b : Bool) → (a || b) ≡ false → (a ≡ false) × (b ≡ false)
+neither true b e = absurd (true≢false e)
+neither false b e = (refl, e)
 
 -- an accepted width is two to the power of its logarithm, 3 to 6
 

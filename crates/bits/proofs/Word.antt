@@ -1,13 +1,16 @@
 -- The laws of a word as its bits, over every width. After these no proof speaks of quotients and remainders.
 -- Assumes nothing.
-use mathlib.Core.Path.{_≡_, refl, sym, _∙_, ap}
+use mathlib.Core.Path.{_≡_, refl, sym, _∙_, ap, ap₂}
+use mathlib.Core.Bool.{Bool, true, false, cond}
 use mathlib.Core.Logic.{_⊎_, inl, inr, _↔_}
 use Prim.Native.Nat.{ℕ, zero, suc, _+_, _-_, _*_, _/_, _%_, _^_, _<_, _≤_, min, max}
 use native.Mathlib.Omega.{arith}
 use native.Mathlib.Nat.{div-one, pow-suc, pow-zero, pow-succ', mod-lt, mod-eq-of-lt, div-eq-of-lt, div-div-eq-div-mul, zero-div, zero-mod, div-lt-iff-lt-mul, one-mul, mul-le-mul-right, not-suc-le-zero, add-zero}
 use native.Mathlib.Decide.{decLt}
+use lib.Dec.{eqb}
+use borrow.Author.Tests.{eq-eqb, eqb-true, eqb-false}
 use lib.Arith.{digits-div, digits-mod, lt-one}
-use lib.Pow.{pow-pos, pow-mono, pow-add, shr-shr, high, low, field, mod-mod-pow, ones-lt}
+use lib.Pow.{pow-pos, pow-lt, pow-mono, pow-add, shr-shr, high, low, field, mod-mod-pow, ones-lt}
 use lib.Bits.{bitAnd, bitOr, bitXor, differ, and-step, or-step, xor-step, and-shr, or-shr, xor-shr}
 use Rattle.bits.specs.Bit.{bit, ofBits}
 
@@ -201,3 +204,31 @@ bit-ones k i h =
 
 pub bit-ones-above : (k i : ℕ) → k ≤ i → bit (2 ^ k - 1) i ≡ 0
 bit-ones-above k i h = bit-above i (ones-lt k) h
+
+-- a word with one bit set
+
+pub bit-pow : (s i : ℕ) → bit (2 ^ s) i ≡ cond (eqb i s) 1 0
+unfolding bit
+bit-pow s i = go (eqb i s) refl
+  where
+    one : 2 ^ s ≡ 1 * 2 ^ s
+    one = sym (one-mul (2 ^ s))
+
+    beside : (i ≡ s → ⊥) → Dec (i < s) → bit (2 ^ s) i ≡ 0
+    beside n (yes l) = ap (λ (x : ℕ). bit x i) one ∙ bit-shl-low 1 s i l
+    beside n (no g) = let h : suc s ≤ i = omega arith in bit-above {w = suc s} i (pow-lt (omega arith)) h
+
+    go : (b : Bool) → eqb i s ≡ b → bit (2 ^ s) i ≡ cond b 1 0
+    go true t =
+        ap₂ bit one (eqb-true i s t ∙ sym (add-zero s)) ∙ bit-shl-high 1 s 0
+    go false t = beside (eqb-false i s t) (decLt i s)
+
+pub bit-pow-own : (j : ℕ) → bit (2 ^ j) j ≡ 1
+bit-pow-own j = bit-pow j j ∙ ap (λ (b : Bool). cond b 1 0) (eq-eqb j j refl)
+
+pub bit-pow-only : (j i : ℕ) → bit (2 ^ j) i ≡ 1 → i ≡ j
+bit-pow-only j i e = by-test (eqb i j) refl
+  where
+    by-test : (b : Bool) → eqb i j ≡ b → i ≡ j
+    by-test true t = eqb-true i j t
+    by-test false t = absurd (omega (arith, sym e ∙ bit-pow j i ∙ ap (λ (c : Bool). cond c 1 0) t))

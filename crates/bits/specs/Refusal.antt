@@ -45,3 +45,9 @@ Rising b (c ∷ cs) = (b < c .0) × Rising (c .0) cs
 -- r is 0 and nothing applies, or r applies and nothing lower does
 abbrev pub IsLowest : List (ℕ × Bool) → ℕ → Type 0
 IsLowest cs r = ((r ≡ 0) × ((n : ℕ) → Applies n cs → ⊥)) ⊎ (Applies r cs × ((n : ℕ) → Applies n cs → r ≤ n))
+
+-- Demand 1, of the answer of a call with conditions cs: "it gets the lowest refusal number that applies, zeros for the rest, and every lent buffer and register
+-- stays untouched". `number` reads the refusal of an answer; `refused n` is the answer with number n, zeros beside it and everything lent as it was.
+pub record AnswersLowest {A : Type 0} (cs : List (ℕ × Bool)) (number : A → ℕ) (refused : ℕ → A) (answer : A) : Type 0 where
+  pub least : IsLowest cs (number answer)
+  pub zeros : (number answer ≡ 0 → ⊥) → answer ≡ refused (number answer)

@@ -18,7 +18,7 @@ use Rattle.routing.specs.Level.{other, Sets}
 use Rattle.routing.specs.FirstControls.{Permutes}
 use Rattle.routing.proofs.PlaceNumbers.{num-lt}
 use Rattle.routing.proofs.Level.{other-small}
-use Rattle.routing.proofs.Arrays.{count-falls}
+use Rattle.routing.proofs.Arrays.{count-same, count-falls}
 use Rattle.routing.proofs.WalkSteps.{At, After, done-start, done-skip, at-start, at-small, at-last, after-end, after-unset, after-next}
 use Rattle.first.specs.Marks.{markSwaps, markOf, row, marksAt, BlockFits, InOuter, Kept, MarksSet}
 use Rattle.first.specs.Blocks.{placeIn, Settled, AtLast, AtFirst, Stepped, Routable}
@@ -61,12 +61,6 @@ after-cong n π ρ perm s y M M′ G same a =
 -- the unset switches of a block's first stage
 unfoldable pub unsetIn : ℕ → ℕ → List ℕ → ℕ
 unsetIn e b marks = countUnset (marksAt (Butterfly e) b marks) (2 ^ e)
-
-count-same : (k : ℕ) (M M′ : ℕ → Mark) → ((t : ℕ) → t < k → M′ t ≡ M t) → countUnset M′ k ≡ countUnset M k
-unfolding countUnset
-count-same zero M M′ same = refl
-count-same (suc k) M M′ same =
-    ap₂ (λ (x : ℕ) (v : Mark). x + isUnset v) (count-same k M M′ (λ t l. same t (omega arith))) (same k (omega arith))
 
 -- a block's switch among those of its stage
 at-row : (c : Stage) (b s : ℕ) (marks : List ℕ) → getD marks (row c + b + s) 0 ≡ getD marks (row c + (b + s)) 0

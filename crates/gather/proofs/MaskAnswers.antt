@@ -5,39 +5,32 @@ use mathlib.Core.List.{[], _∷_}
 use Prim.Native.Nat.{ℕ, _^_, _<_, _≤_}
 use native.Mathlib.Omega.{arith}
 use native.Mathlib.Decide.{decLt}
-use borrow.Author.Tests.{eq-eqb, ne-eqb, ltb-true}
-use Rattle.bits.specs.Refusal.{accepted, fits, lowest, IsLowest}
-use Rattle.bits.proofs.Refusals.{width-le, lowest-law}
+use borrow.Author.Tests.{eq-eqb, ne-eqb, ltb-true, not-false}
+use Rattle.bits.specs.Refusal.{accepted, fits, lowest, AnswersLowest}
+use Rattle.bits.proofs.Refusals.{width-le, answers-lowest, none-applies, neither}
 use Rattle.gather.specs.declared.Gathered.{Gathered}
 use Rattle.gather.specs.Gather.{conditionsOf, refusalOf, byRefusal, answerOf}
 
--- the refusal, from the outcomes of the three tests: an accepted width, a word and a mask within it
-abbrev byTests : Bool → Bool → Bool → ℕ
-byTests a f g = lowest ((1, not a) ∷ (2, not f || not g) ∷ [])
-
 module _ (w m x : ℕ) where
-  pub refusal-by : {a f g : Bool} → accepted w ≡ a → fits w x ≡ f → fits w m ≡ g → refusalOf w m x ≡ byTests a f g
+  -- the refusal, from the outcomes of the three tests: an accepted width, a word and a mask within it
+  pub refusal-by : {a f g : Bool} → accepted w ≡ a → fits w x ≡ f → fits w m ≡ g → refusalOf w m x ≡ lowest ((1, not a) ∷ (2, not f || not g) ∷ [])
   unfolding refusalOf
-  refusal-by {a} {f} {g} p q r =
-      ap (λ (b : Bool). byTests b (fits w x) (fits w m)) p
-      ∙ ap (λ (b : Bool). byTests a b (fits w m)) q
-      ∙ ap (λ (b : Bool). byTests a f b) r
-
-  -- demand 1, of gather, scatter and group
-  pub refusal-lowest : IsLowest (conditionsOf w m x) (refusalOf w m x)
-  unfolding refusalOf
-  refusal-lowest = lowest-law (conditionsOf w m x) (omega arith)
+  refusal-by p q r = λ i. lowest ((1, not (p i)) ∷ (2, not (q i) || not (r i)) ∷ [])
 
   -- a call that is carried out is within the limits
   pub within : refusalOf w m x ≡ 0 → (accepted w ≡ true) × (x < 2 ^ w) × (m < 2 ^ w)
-  within e = by-tests (accepted w) (fits w x) (fits w m) refl refl refl (sym (refusal-by refl refl refl) ∙ e)
-    where
-      by-tests : (a f g : Bool) → accepted w ≡ a → fits w x ≡ f → fits w m ≡ g → byTests a f g ≡ 0
-          → (accepted w ≡ true) × (x < 2 ^ w) × (m < 2 ^ w)
-      by-tests true true true p q r z = (p, ltb-true x (2 ^ w) q, ltb-true m (2 ^ w) r)
-      by-tests true true false p q r z = absurd (omega arith)
-      by-tests true false g p q r z = absurd (omega arith)
-      by-tests false f g p q r z = absurd (omega arith)
+  unfolding refusalOf
+  within e =
+      let n = none-applies (conditionsOf w m x) (omega arith) e in
+      let o = neither (not (fits w x)) (not (fits w m)) (n .1 .0) in
+      (not-false _ (n .0), ltb-true x (2 ^ w) (not-false _ (o .0)), ltb-true m (2 ^ w) (not-false _ (o .1)))
+
+  -- demand 1, of gather, scatter and group
+  pub gather-lowest : (f : ℕ → ℕ → ℕ → ℕ) → AnswersLowest (conditionsOf w m x) (λ a. a .refusal) (λ n. record { refusal = n; word = 0 }) (answerOf f w m x)
+  unfolding answerOf refusalOf
+  gather-lowest f =
+      answers-lowest (conditionsOf w m x) (omega arith) (λ (a : Gathered). a .refusal) (λ n. record { refusal = n; word = 0 })
+      (record { refusal = 0; word = f w m x }) refl (λ n. refl)
 
   module _ (f : ℕ → ℕ → ℕ → ℕ) {n : ℕ} (e : n ≡ refusalOf w m x) where
     pub carried-out : n ≡ 0 → {y : ℕ} → y ≡ f w m x → _≡_ {A = Gathered} (record { refusal = 0; word = y }) (answerOf f w m x)

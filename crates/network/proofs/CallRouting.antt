@@ -23,7 +23,7 @@ use Rattle.network.specs.declared.Carried.{Carried}
 use Rattle.network.specs.declared.Prepared.{Prepared}
 use Rattle.network.specs.declared.Decoded.{Decoded}
 use Rattle.network.specs.Word.{exchangesOf, preparedOf, travelOf}
-use Rattle.network.specs.Calls.{usedBits, controlsFit, networkRefusal, networkAnswer, prepareAnswer, six, controls, decodeAnswer}
+use Rattle.network.specs.Calls.{Uses, usedBits, controlsFit, networkRefusal, networkAnswer, prepareAnswer, six, controls, decodeAnswer}
 use Rattle.network.proofs.Travel.{length-falling, length-rising}
 use Rattle.network.proofs.Filling.{map-at, reverse-at}
 use Rattle.network.proofs.MaskRouting.{decoded-stage-lt, length-decode, undo, undo-inverse, butterfly-lt, inverse-lt, mask-routing-scatter, mask-routing-gather}
@@ -87,17 +87,13 @@ pub inverse-own : OwnStages inverseOf
 unfolding inverseOf
 inverse-own L cs es e x = travel-own (2 ^ L) (rising L) cs es (e ∙ sym (length-rising L)) x
 
--- the controls of each stage fit its switches
-abbrev pub EachFits : ℕ → List ℕ → Type 0
-EachFits L cs = (length cs ≡ L) × ((i : ℕ) → i < L → getD cs i 0 < 2 ^ (2 ^ L / 2))
-
-reverse-fits : (L : ℕ) (cs : List ℕ) → EachFits L cs → EachFits L (reverse cs)
+reverse-fits : (L : ℕ) (cs : List ℕ) → Uses L cs → Uses L (reverse cs)
 reverse-fits L cs f = (
   length-reverse cs ∙ f .0,
   λ i h. rw (reverse-at cs i (omega (arith, f .0)), f .0) (f .1 (L - 1 - i) (omega arith)),
 )
 
-decode-fits : (L m : ℕ) → EachFits L (decodeOf L m)
+decode-fits : (L m : ℕ) → Uses L (decodeOf L m)
 unfolding decodeOf
 decode-fits L m = (
   length-decode L m,
@@ -105,7 +101,7 @@ decode-fits L m = (
 )
 
 -- a call on L stages that fit
-pub on-stages : (f : ℕ → List ℕ → ℕ → ℕ) → OwnStages f → (w : ℕ) (cs : List ℕ) (x : ℕ) → accepted w ≡ true → x < 2 ^ w → EachFits (logOf w) cs
+pub on-stages : (f : ℕ → List ℕ → ℕ → ℕ) → OwnStages f → (w : ℕ) (cs : List ℕ) (x : ℕ) → accepted w ≡ true → x < 2 ^ w → Uses (logOf w) cs
     → networkAnswer f w (controls cs) x ≡ record { refusal = 0; word = f (logOf w) cs x }
 on-stages f own w cs x a h g =
     network-is f w (controls cs) x a h (six-fit (logOf w) cs (log-le w) (g .0) (g .1))
@@ -149,7 +145,7 @@ module _ (w m x : ℕ) (h : refusalOf w m x ≡ 0) where
 
 -- Each network on the reversed stages undoes the other, for any controls that are accepted.
 
-stages-fit : (L : ℕ) (cs : List ℕ) → L ≤ 6 → length cs ≡ 6 → controlsFit L 0 cs ≡ true → EachFits L (take L cs)
+stages-fit : (L : ℕ) (cs : List ℕ) → L ≤ 6 → length cs ≡ 6 → controlsFit L 0 cs ≡ true → Uses L (take L cs)
 stages-fit L cs l e g = (length-take-le L cs (omega arith), each)
   where
     each : (i : ℕ) → i < L → getD (take L cs) i 0 < 2 ^ (2 ^ L / 2)

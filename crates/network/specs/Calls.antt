@@ -1,9 +1,10 @@
 -- What the calls on the networks and the decoder answer. Assumes nothing.
-use Prim.Native.Nat.{ℕ, suc, _-_, _/_, _^_}
+use mathlib.Core.Path.{_≡_}
+use Prim.Native.Nat.{ℕ, suc, _-_, _/_, _^_, _<_}
 use mathlib.Core.Bool.{Bool, true, not, cond, _&&_}
 use mathlib.Core.List.{List, [], _∷_, _++_}
 use lib.Dec.{eqb, ltb}
-use lib.ListN.{length, replicate}
+use lib.ListN.{length, getD, replicate}
 use Rattle.bits.specs.Refusal.{logOf, accepted, fits, lowest}
 use Rattle.network.specs.declared.Controls.{Controls}
 use Rattle.network.specs.declared.Carried.{Carried}
@@ -15,6 +16,10 @@ use Rattle.network.specs.Decoder.{decodeOf, decodeInverseOf}
 -- "a column uses w/2 bits"; "Unused columns and bits are zero": how many bits stage i (from 0) uses at width 2 ^ L
 abbrev pub usedBits : ℕ → ℕ → ℕ
 usedBits L i = cond (ltb i L) (2 ^ L / 2) 0
+
+-- Controls of one network are a word for each of its L stages, in the direction of travel: 2^L / 2 control bits each, no one in an unused bit.
+abbrev pub Uses : ℕ → List ℕ → Type 0
+Uses L cs = (length cs ≡ L) × ((i : ℕ) → i < L → getD cs i 0 < 2 ^ (2 ^ L / 2))
 
 -- stages number i and up have no one in an unused bit
 abbrev pub controlsFit : ℕ → ℕ → List ℕ → Bool

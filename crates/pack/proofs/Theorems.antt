@@ -1,4 +1,4 @@
--- Theorems on pack and unpack: the refusals and the count of bits, the stream bit by bit, the round trip, and row 11 of the paper. Assumes nothing.
+-- Theorems on pack and unpack: the refusals and the count of bits, the stream bit by bit, the round trip. Assumes nothing.
 use mathlib.Core.Path.{_≡_, refl, sym, _∙_, ap}
 use mathlib.Core.List.{List, [], _∷_, _++_, map}
 use Prim.Native.Nat.{ℕ, zero, suc, _+_, _-_, _*_, _/_, _%_, _^_, _<_, _≤_}
@@ -171,9 +171,3 @@ module _ (m : ℕ) (hm : m < 2 ^ 64) (ws out : List ℕ) (a b : ℕ) (h : packAn
             ∙ ap (λ (qs : List ℕ). unpackInto m qs a b ys) packed-is
             ∙ unpack-pack m hm a b ws (w .order) (w .end) out ys,
       )
-
--- Row 11: pack, mask 0xFFF, words 1, 2, 3, 4, 5, 0x9A6, a = 0, b = 6: 72 bits; 0x6005004003002001, 0x9A. A third word keeps its value.
-pub row-11 : (packAnswer 0xFFF (1 ∷ 2 ∷ 3 ∷ 4 ∷ 5 ∷ 0x9A6 ∷ []) 0 6 (7 ∷ 7 ∷ 7 ∷ []) ≡ record { refusal = 0; bits = 72 })
-    × (packedOut 0xFFF (1 ∷ 2 ∷ 3 ∷ 4 ∷ 5 ∷ 0x9A6 ∷ []) 0 6 (7 ∷ 7 ∷ 7 ∷ []) ≡ 0x6005004003002001 ∷ 0x9A ∷ 7 ∷ [])
-unfolding fieldsAnswer leftOf fieldsRefusal rank packInto upTo wordAt streamBit gatherOf pick places ofBits bit
-row-11 = (refl, refl)

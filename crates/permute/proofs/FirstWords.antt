@@ -14,21 +14,9 @@ use Rattle.routing.specs.Loop.{pass, swap}
 use Rattle.routing.specs.Stages.{Butterfly, Inverse}
 use Rattle.routing.specs.Stages as place
 use Rattle.routing.specs.Lists.{Words, wordOf, controlIn, butterflyWords, inverseWords, butterflyFrom, inverseFrom, wordsOf, fromWords}
-use Rattle.routing.proofs.StageWords.{word-small, word-bit, butterfly-word, inverse-word}
-use Rattle.permute.specs.Permutation.{Uses}
+use Rattle.routing.proofs.StageWords.{word-small, word-bit, length-butterfly, length-inverse, butterfly-word, inverse-word}
+use Rattle.network.specs.Calls.{Uses}
 use Rattle.permute.specs.First.{travelled, UsesBoth}
-
--- the words of a set of controls
-
-length-butterfly : (w k : ℕ) (c : ℕ → ℕ → Bool) → length (butterflyWords w k c) ≡ k
-unfolding butterflyWords
-length-butterfly w zero c = refl
-length-butterfly w (suc k) c = ap suc (length-butterfly w k c)
-
-length-inverse : (w e k : ℕ) (c : ℕ → ℕ → Bool) → length (inverseWords w e k c) ≡ k
-unfolding inverseWords
-length-inverse w e zero c = refl
-length-inverse w e (suc k) c = ap suc (length-inverse w (suc e) k c)
 
 -- where the words stand in the direction of travel
 module _ (L : ℕ) (k : Words) (b : length (k .butterfly) ≡ L) where

@@ -1,7 +1,7 @@
 -- The test that a list names every place once. Assumes nothing.
 use mathlib.Core.Path.{_≡_, refl, sym, _∙_, ap, ap₂}
 use mathlib.Core.Logic.{_⊎_, inl, inr}
-use mathlib.Core.Bool.{Bool, true, false, not, _&&_, false≢true, true≢false}
+use mathlib.Core.Bool.{Bool, true, false, not, cond, _&&_, false≢true, true≢false}
 use mathlib.Core.List.{List, [], _∷_}
 use Prim.Native.Nat.{ℕ, zero, suc, _+_, _*_, _/_, _%_, _^_, _<_, _≤_, max}
 use native.Mathlib.Omega.{arith}
@@ -14,11 +14,10 @@ use lib.ListN.{length, getD, drop}
 use lib.Seq.{drop-cons, drop-length}
 use borrow.Author.Tests.{ltb-true, lt-ltb, le-ltb, eq-eqb, ne-eqb}
 use Rattle.bits.specs.Bit.{bit}
-use Rattle.bits.proofs.Word.{bit-cases, bit-lt, bit-or, bit-of-zero}
+use Rattle.bits.proofs.Word.{bit-lt, bit-or, bit-of-zero, bit-pow, bit-pow-own}
 use Rattle.network.proofs.StageBlocks.{shl-one}
 use Rattle.routing.specs.Lists.{ListPermutes}
 use Rattle.permute.specs.Permutation.{absent, namesOnce}
-use Rattle.permute.proofs.Realised.{bit-pow, bit-pow-only}
 
 and-true : (a b : Bool) → (a && b) ≡ true → (a ≡ true) × (b ≡ true)
 and-true true b e = (refl, e)
@@ -81,15 +80,11 @@ seen-more seen e ys h s x l =
     ∙ ap (λ (n : ℕ). eqb n 0) (sym (bit-or seen (1 * 2 ^ e % 2 ^ 64) x ∙ ap (λ (y : ℕ). max (bit seen x) (bit y x)) (shl-one e h)))
   where
     other : (x ≡ e → ⊥) → bit (2 ^ e) x ≡ 0
-    other n = by (bit-cases (2 ^ e) x)
-      where
-        by : (bit (2 ^ e) x ≡ 0) ⊎ (bit (2 ^ e) x ≡ 1) → bit (2 ^ e) x ≡ 0
-        by (inl z) = z
-        by (inr o) = absurd (n (bit-pow-only e x o))
+    other n = bit-pow e x ∙ ap (λ (b : Bool). cond b 1 0) (ne-eqb x e n)
 
     by-cases : Dec (x ≡ e) → (not (eqb x e) && absent x ys) ≡ eqb (max (bit seen x) (bit (2 ^ e) x)) 0
     by-cases (yes q) =
-        let m : max (bit seen x) (bit (2 ^ e) x) ≡ 1 = omega (arith, ap (bit (2 ^ e)) q, bit-pow e, bit-lt seen x) in
+        let m : max (bit seen x) (bit (2 ^ e) x) ≡ 1 = omega (arith, ap (bit (2 ^ e)) q, bit-pow-own e, bit-lt seen x) in
         ap (λ (b : Bool). not b && absent x ys) (eq-eqb x e q) ∙ sym (ap (λ (n : ℕ). eqb n 0) m)
     by-cases (no n) =
         let m : max (bit seen x) (bit (2 ^ e) x) ≡ bit seen x = omega (arith, other n) in

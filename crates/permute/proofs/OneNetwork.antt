@@ -14,7 +14,8 @@ use Rattle.routing.specs.Stages as place
 use Rattle.routing.specs.Alone.{butterflyControls, inverseControls}
 use Rattle.routing.specs.Lists.{ListPermutes, entry, find, butterflyFrom, inverseFrom, butterflyFits, inverseFits, butterflyAlone, inverseAlone}
 use Rattle.routing.proofs.AloneWords.{butterfly-brings, inverse-brings, butterfly-only, inverse-only}
-use Rattle.permute.specs.Permutation.{Uses, RealisesAlone}
+use Rattle.network.specs.Calls.{Uses}
+use Rattle.permute.specs.Permutation.{RealisesAlone}
 use Rattle.permute.proofs.Sources.{butterfly-origin, inverse-origin}
 use Rattle.permute.proofs.FirstWords.{butterfly-used, inverse-used, butterfly-back, inverse-back}
 use Rattle.permute.proofs.Realised.{words-permuted, places-permuted}

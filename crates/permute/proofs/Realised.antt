@@ -7,7 +7,7 @@ use native.Mathlib.Decide.{decLt}
 use lib.ListN.{length}
 use lib.Pow.{pow-lt}
 use Rattle.bits.specs.Bit.{bit, pick}
-use Rattle.bits.proofs.Word.{bit-shl-low, bit-shl-high, bit-above, bit-zero, ext}
+use Rattle.bits.proofs.Word.{bit-pow-own, bit-pow-only, ext}
 use Rattle.bits.proofs.Places.{bit-pick, pick-lt}
 use Rattle.network.specs.Stage.{falling, rising, butterflyOf, inverseOf}
 use Rattle.network.proofs.Travel.{origin, origin-below, bit-travel, falling-fit, rising-fit}
@@ -17,25 +17,6 @@ use Rattle.routing.specs.FirstControls.{Brings}
 use Rattle.routing.specs.Lists.{Words, entry, fromWords}
 use Rattle.permute.specs.Permutation.{Realises}
 use Rattle.permute.proofs.Sources.{network-origin}
-
--- a word with one bit set tells that bit's place
-
-pub bit-pow : (j : ℕ) → bit (2 ^ j) j ≡ 1
-bit-pow j =
-    let n : 2 ^ j ≡ 1 * 2 ^ j = omega arith in
-    let m : j ≡ j + 0 = omega arith in
-    ap (λ (x : ℕ). bit x j) n ∙ ap (bit (1 * 2 ^ j)) m ∙ bit-shl-high 1 j 0 ∙ bit-zero 1
-
-pub bit-pow-only : (j i : ℕ) → bit (2 ^ j) i ≡ 1 → i ≡ j
-bit-pow-only j i e = by-cases (decLt i j) (decLt j i)
-  where
-    n : 2 ^ j ≡ 1 * 2 ^ j
-    n = omega arith
-
-    by-cases : Dec (i < j) → Dec (j < i) → i ≡ j
-    by-cases (yes l) d = absurd (omega (arith, ap (λ (x : ℕ). bit x i) n, bit-shl-low 1 j i l))
-    by-cases (no a) (yes l) = absurd (omega (arith, bit-above {x = 2 ^ j} {w = suc j} i (pow-lt (omega arith)) l))
-    by-cases (no a) (no b) = omega arith
 
 -- a network of places, and the permuted word
 
@@ -54,7 +35,7 @@ module _ (L : ℕ) (entries : List ℕ) (long : length entries ≡ 2 ^ L) (F : �
         let j = entry entries p in
         let h : 2 ^ j < 2 ^ 2 ^ L = pow-lt (small p l) in
         bit-pow-only j (f p)
-        (sym (moves (2 ^ j) p h l) ∙ ap (λ (y : ℕ). bit y p) (g (2 ^ j) h) ∙ bit-pick (2 ^ j) entries p (omega arith) ∙ bit-pow j)
+        (sym (moves (2 ^ j) p h l) ∙ ap (λ (y : ℕ). bit y p) (g (2 ^ j) h) ∙ bit-pick (2 ^ j) entries p (omega arith) ∙ bit-pow-own j)
 
 -- both networks
 

@@ -6,7 +6,8 @@ use Prim.Native.Nat.{ℕ, _+_, _/_, _^_, _<_}
 use lib.ListN.{getD}
 use Rattle.bits.specs.Bit.{bit}
 use Rattle.routing.specs.Lists.{Words}
-use Rattle.permute.specs.Permutation.{Uses, Realises}
+use Rattle.network.specs.Calls.{Uses}
+use Rattle.permute.specs.Permutation.{Realises}
 
 -- "going through columns 1 to L of the butterfly, then columns 1 to L of the inverse, each from switch 0 up"
 abbrev pub travelled : Words → List ℕ

@@ -21,10 +21,6 @@ unfoldable pub namesOnce : ℕ → List ℕ → Bool
 namesOnce w [] = true
 namesOnce w (x ∷ xs) = ltb x w && absent x xs && namesOnce w xs
 
--- Controls of one network are a word for each of its L stages, in the direction of travel: 2^L / 2 control bits each, no one in an unused bit.
-abbrev pub Uses : ℕ → List ℕ → Type 0
-Uses L cs = (length cs ≡ L) × ((i : ℕ) → i < L → getD cs i 0 < 2 ^ (2 ^ L / 2))
-
 -- "settings for butterfly then inverse that bring every line of every word to its place"
 abbrev pub Realises : ℕ → Words → List ℕ → Type 0
 Realises L k entries = (x : ℕ) → x < 2 ^ 2 ^ L → inverseOf L (k .inverse) (butterflyOf L (k .butterfly) x) ≡ pick entries x

@@ -27,7 +27,7 @@ store-sets n δ a b s x v l e =
       elsewhere = λ t h ne. ap δ (getD-set-other a (b + s) (b + t) x 0 (λ q. omega arith));
     }
 
-count-same :
+pub count-same :
     (k : ℕ) (M M′ : ℕ → Mark) → ((t : ℕ) → t < k → M′ t ≡ M t) → countUnset M′ k ≡ countUnset M k
 unfolding countUnset
 count-same zero M M′ same = refl

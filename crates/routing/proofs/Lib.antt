@@ -16,7 +16,5 @@ pub mod StageWords
 pub mod Level
 pub mod WalkSteps
 pub mod Arrays
-pub mod Run
 pub mod Alone
 pub mod AloneWords
-pub mod Width64

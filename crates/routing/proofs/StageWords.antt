@@ -9,7 +9,7 @@ use native.Mathlib.Omega.{arith}
 use native.Mathlib.Nat.{add-zero, div-eq-of-lt, add-div-right}
 use lib.Dec.{eqb}
 use lib.Pow.{pow-pos, pow-add}
-use lib.ListN.{getD}
+use lib.ListN.{length, getD}
 use Rattle.routing.specs.Stages.{Butterfly, Inverse, StageControls, InRange, Same, Agree}
 use Rattle.routing.specs.FirstControls.{IsFirst}
 use Rattle.routing.specs.Lists.{entry, ListPermutes, controlsOf, wordOf, controlIn, butterflyWords, inverseWords, butterflyFrom, inverseFrom, wordsOf, fromWords, firstWords}
@@ -70,6 +70,18 @@ word-cong zero c d same = refl
 word-cong (suc k) c d same =
     ap₂ (λ (x : ℕ) (b : Bool). x + cond b 0 (2 ^ k)) (word-cong k c d (λ s l. same s (omega arith)))
     (same k (omega arith))
+
+-- a word for each stage
+
+pub length-butterfly : (w k : ℕ) (c : ℕ → ℕ → Bool) → length (butterflyWords w k c) ≡ k
+unfolding butterflyWords
+length-butterfly w zero c = refl
+length-butterfly w (suc k) c = ap suc (length-butterfly w k c)
+
+pub length-inverse : (w e k : ℕ) (c : ℕ → ℕ → Bool) → length (inverseWords w e k c) ≡ k
+unfolding inverseWords
+length-inverse w e zero c = refl
+length-inverse w e (suc k) c = ap suc (length-inverse w (suc e) k c)
 
 -- where the word of a stage stands
 pub butterfly-word :
