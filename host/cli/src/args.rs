@@ -108,7 +108,7 @@ impl Given {
         self.option(name).expect("the command lists its arguments")
     }
 
-    /// Turns back two options that exclude each other.
+    /// Fails on two options that exclude each other.
     pub fn at_most_one(&self, names: [&str; 2]) -> Result<(), Failure> {
         if names.iter().all(|name| self.has(name)) {
             let [one, other] = names;

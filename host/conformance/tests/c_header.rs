@@ -23,8 +23,8 @@ const PREPARED: &str = "\
     butterfly_prepared 380000000\n\
     inverse_prepared 2\n";
 
-/// What pack and unpack answer, and the words of the strips then.
-const STRIPS: &str = "\
+/// What pack and unpack answer, and the words then.
+const PACKING: &str = "\
     pack 0 72: 6005004003002001 9a 7\n\
     unpack 0 72: 7 1 2 3 4 5 9a6 7\n\
     pack 10 0: 6005004003002001 9a 7\n\
@@ -131,7 +131,7 @@ fn expected() -> String {
         permutation 0 4 2 3 1 5 6 7\n";
     let layouts = layouts();
     let numbers = numbers.concat();
-    format!("{layouts}numbers 0{numbers}\n{answers}{PREPARED}{STRIPS}{UNIT}")
+    format!("{layouts}numbers 0{numbers}\n{answers}{PREPARED}{PACKING}{UNIT}")
 }
 
 fn interface(compiler: &str, language: &str, standard: &str) -> String {
