@@ -1,7 +1,11 @@
 /*
  * tigbayon.h - the C interface of Tigbayon, a bit-permutation library.
+ * SPDX-License-Identifier: MIT OR Apache-2.0
  *
  * Link libtigbayon.a, written to target/staticlib/ by `rt staticlib tigbayon`.
+ * It is for x86-64 with the System V ABI: size_t has 64 bits, the order of bytes
+ * is little-endian, and the stack is aligned to 16 bytes at every call. It uses
+ * the registers of SSE2. Of the C library it needs memcpy and memset alone.
  *
  * Bits are counted from 0 at the right. A width w is 8, 16, 32 or 64, and a
  * word or a mask of width w has zeros at bit w and above. The ones of a mask
@@ -14,13 +18,21 @@
  * each call ends. No function keeps state or allocates. None touches any memory
  * but what its arguments point to, and where that is const it is only read.
  *
- * A refusal number, once given, keeps its meaning.
+ * A later version may add fields to a struct or arguments to a call. With that
+ * TB_VERSION_MINOR rises while TB_VERSION_MAJOR is 0, and CHANGELOG.md says what
+ * to change. A refusal number, once given, keeps its meaning, and no name is
+ * used again for another. Header and archive must be of one version.
  */
 #ifndef TIGBAYON_H
 #define TIGBAYON_H
 
 #include <stddef.h>
 #include <stdint.h>
+
+/* The version of this header, and of the archive that it belongs to. */
+#define TB_VERSION_MAJOR 0
+#define TB_VERSION_MINOR 2
+#define TB_VERSION_PATCH 0
 
 #ifdef __cplusplus
 extern "C" {

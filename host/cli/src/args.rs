@@ -80,7 +80,7 @@ impl Given {
             self.values.push((argument.name, text));
         }
         match plain.next() {
-            Some(text) => Err(Failure::argument(format!("{text:?} is one too many"))),
+            Some(text) => Err(Failure::surplus(text)),
             None => Ok(()),
         }
     }

@@ -59,6 +59,11 @@ impl Failure {
         Failure::Argument { problem, command }
     }
 
+    /// An argument after the last one that is expected.
+    pub fn surplus(text: &str) -> Self {
+        Failure::argument(format!("{text:?} is one too many"))
+    }
+
     /// The same failure, of this command.
     pub fn of(self, name: &'static str) -> Self {
         match self {

@@ -1,4 +1,4 @@
-//! What `--help` prints.
+//! What `--help` and `--version` print.
 
 use crate::command::{Command, Example};
 use crate::commands::COMMANDS;
@@ -9,6 +9,7 @@ Tigbayon: gathers, scatters, groups, permutes and packs bits, by a library that 
 
 Usage: tigbayon COMMAND ARGUMENTS [OPTIONS]
        tigbayon COMMAND --help, or tigbayon help COMMAND
+       tigbayon --version
 ";
 
 const NOTES: &str = "\
@@ -31,6 +32,11 @@ const EXAMPLES: [Example; 3] = [
         prints: "refused 1: width not 8, 16, 32, 64",
     },
 ];
+
+/// The version, which is the library's.
+pub fn version() -> String {
+    format!("tigbayon {}\n", env!("CARGO_PKG_VERSION"))
+}
 
 /// The help of the whole.
 pub fn overall() -> String {
