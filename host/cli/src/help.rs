@@ -15,7 +15,8 @@ Usage: tigbayon COMMAND ARGUMENTS [OPTIONS]
 const NOTES: &str = "\
 Bits are counted from 0 at the right. Words, masks and controls are hexadecimal,
 with 0x or without; all other numbers are decimal. Lists have commas between their
-entries, or spaces if quoted. In controls one means pass, zero means swap.
+entries, or spaces if quoted. In controls one means pass, zero means swap. The width
+is w for short.
 ";
 
 const EXAMPLES: [Example; 3] = [
@@ -76,7 +77,7 @@ pub fn of(command: &Command) -> String {
         format!("Usage: tigbayon {called}{options}\n"),
         table("Arguments", arguments),
         table("Options", choices),
-        command.notes.to_string(),
+        command.notes.join("\n"),
         table("Refusals", refusals),
         examples(command.examples),
     ];

@@ -53,7 +53,7 @@ pub const PACK: Command = Command {
         B,
     ],
     options: &[&CHOICES],
-    notes: NOTES,
+    notes: &[NOTES],
     refusals: REFUSALS,
     examples: &[
         Example {
@@ -93,7 +93,7 @@ pub const UNPACK: Command = Command {
         B,
     ],
     options: &[&CHOICES],
-    notes: NOTES,
+    notes: &[NOTES],
     refusals: REFUSALS,
     examples: &[
         Example {
