@@ -197,7 +197,8 @@ fn without_a_c_library() {
 #[cfg(target_os = "linux")]
 #[test]
 fn no_more_than_is_called() {
-    let begin = [&FREESTANDING[..], &["-Wl,--gc-sections"]].concat();
+    let sections = ["-ffunction-sections", "-Wl,--gc-sections"];
+    let begin = [&FREESTANDING[..], &sections].concat();
     assert!(README.contains(&begin.join(" ")));
     let program = compile(&begin, &source("freestanding.c"), "collected");
     assert_eq!(printed(&mut Command::new(&program)), "");
