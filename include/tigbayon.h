@@ -21,7 +21,7 @@
  * A later version may add fields to a struct or arguments to a call. With that
  * TB_VERSION_MINOR rises while TB_VERSION_MAJOR is 0, and CHANGELOG.md says what
  * to change. A refusal number, once given, keeps its meaning, and no name is
- * used again for another. Header and archive must be of one version.
+ * used again for another meaning. Header and archive must be of one version.
  */
 #ifndef TIGBAYON_H
 #define TIGBAYON_H
