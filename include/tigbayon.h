@@ -1,7 +1,11 @@
 /*
  * tigbayon.h - the C interface of Tigbayon, a bit-permutation library.
+ * SPDX-License-Identifier: MIT OR Apache-2.0
  *
  * Link libtigbayon.a, written to target/staticlib/ by `rt staticlib tigbayon`.
+ * It is for x86-64 with the System V ABI: size_t has 64 bits, the order of bytes
+ * is little-endian, and the stack is aligned to 16 bytes at every call. It uses
+ * the registers of SSE2. Of the C library it needs memcpy and memset alone.
  *
  * Bits are counted from 0 at the right. A width w is 8, 16, 32 or 64, and a
  * word or a mask of width w has zeros at bit w and above. The ones of a mask
@@ -14,13 +18,21 @@
  * each call ends. No function keeps state or allocates. None touches any memory
  * but what its arguments point to, and where that is const it is only read.
  *
- * A refusal number, once given, keeps its meaning.
+ * A later version may add fields to a struct or arguments to a call. With that
+ * TB_VERSION_MINOR rises while TB_VERSION_MAJOR is 0, and CHANGELOG.md says what
+ * to change. A refusal number, once given, keeps its meaning, and no name is
+ * used again for another meaning. Header and archive must be of one version.
  */
 #ifndef TIGBAYON_H
 #define TIGBAYON_H
 
 #include <stddef.h>
 #include <stdint.h>
+
+/* The version of this header, and of the archive that it belongs to. */
+#define TB_VERSION_MAJOR 0
+#define TB_VERSION_MINOR 2
+#define TB_VERSION_PATCH 0
 
 #ifdef __cplusplus
 extern "C" {
@@ -41,9 +53,9 @@ enum TbRefusal {
     TB_REFUSAL_NOT_REALISED = 6, /* permutation not realised by the one network named */
     TB_REFUSAL_KIND = 7,         /* kind not 1 to 10, or in kind 5 r1 not 1 to 4 */
     TB_REFUSAL_REGISTER = 8,     /* a register number in use above 15 */
-    TB_REFUSAL_RANGE = 9,        /* a above b, b above the length of the strip that a and b
-                                    cut, or either strip above 2,048 words */
-    TB_REFUSAL_SHORT = 10        /* the other strip shorter than its bits need */
+    TB_REFUSAL_RANGE = 9,        /* a above b, b above the length of the words that a and b
+                                    cut, or either list above 2,048 words */
+    TB_REFUSAL_SHORT = 10        /* the other list of words shorter than its bits need */
 };
 
 /* The answer of tb_gather, tb_scatter and tb_group. */
@@ -210,15 +222,15 @@ TbControls1 tb_route_butterfly(uint32_t width, const uint8_t *permutation, size_
 TbControls1 tb_route_inverse(uint32_t width, const uint8_t *permutation, size_t length);
 
 /*
- * Packing, at width 64. A strip is a row of at most 2,048 words. The k bits
- * that the mask gathers from a word form a field. Packed, fields lie end to
- * end: the first begins at bit 0 of word 0, the next at the bit after its last,
- * crossing into the next word where needed. The k*(b - a) bits of fields a to
- * b-1 need k*(b - a)/64 words, rounded up; what is left of the last of these is
- * its spare bits.
+ * Packing, at width 64, from one list of words into another, each of at most
+ * 2,048 words. The k bits that the mask gathers from a word form a field.
+ * Packed, fields lie end to end: the first begins at bit 0 of word 0, the next
+ * at the bit after its last, crossing into the next word where needed. The
+ * k*(b - a) bits of fields a to b-1 need k*(b - a)/64 words, rounded up; what is
+ * left of the last of these is its spare bits.
  *
  * In each call here, the first pointer points to `length` words, which are only
- * read, and `out` to `out_length` words. The two strips must not overlap. A
+ * read, and `out` to `out_length` words. The two lists must not overlap. A
  * refused call leaves every word as it was.
  */
 

@@ -2,7 +2,7 @@
 //! them.
 #![allow(unsafe_code)]
 
-use crate::packing::OfStrip;
+use crate::packing::OfWords;
 #[cfg(target_arch = "x86_64")]
 use crate::packing::{pack_by, unpack_by};
 
@@ -33,7 +33,7 @@ pub fn pdep() -> Option<OfMaskAndWord> {
 }
 
 /// Pack by the instruction pext.
-pub fn pack() -> Option<OfStrip> {
+pub fn pack() -> Option<OfWords> {
     #[cfg(target_arch = "x86_64")]
     if std::is_x86_feature_detected!("bmi2") {
         // Safe: the processor has it.
@@ -43,7 +43,7 @@ pub fn pack() -> Option<OfStrip> {
 }
 
 /// Unpack by the instruction pdep.
-pub fn unpack() -> Option<OfStrip> {
+pub fn unpack() -> Option<OfWords> {
     #[cfg(target_arch = "x86_64")]
     if std::is_x86_feature_detected!("bmi2") {
         // Safe: the processor has it.

@@ -206,8 +206,8 @@ fn by_network(network: Network) -> impl Fn(&mut Random, u32) -> Vec<u8> {
 }
 
 fn packed(words: usize, packing: Packing) -> Calls {
-    let make = |random: &mut Random| packing.strips(random, words);
-    calls(words, make, move |strips| packing.on(strips))
+    let make = |random: &mut Random| packing.lists(random, words);
+    calls(words, make, move |lists| packing.on(lists))
 }
 
 fn random_bank(random: &mut Random) -> TbBank {

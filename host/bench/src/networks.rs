@@ -24,7 +24,7 @@ const PAIRS: [u64; STAGES] = [
 /// One of both networks, as the library offers it.
 pub type Network = extern "C" fn(u32, &Controls, u64) -> TbCarried;
 
-/// The same, made ready.
+/// The same, prepared.
 pub type Prepare = extern "C" fn(u32, &Controls) -> TbPrepared;
 
 /// A word sent through it then.

@@ -1,11 +1,11 @@
-//! Packing strips of 12-bit colour, each word timed.
+//! Packing words of 12-bit colour, each word timed.
 
 use crate::bmi2;
 use crate::contest::Contest;
 use crate::masks::{compress, compress_by, expand, expand_by, moves};
 use crate::networks::{decoded, delta_swaps, swaps_of};
-use conformance::samples::{strip, Random};
-use conformance::strips::{words_needed, LONGEST};
+use conformance::packing::{words_needed, LONGEST};
+use conformance::samples::{random_words, Random};
 use std::cell::RefCell;
 use std::hint::black_box;
 use tigbayon::{tb_pack, tb_unpack};
@@ -13,15 +13,15 @@ use tigbayon::{tb_pack, tb_unpack};
 /// Four colours of 12 bits in places of 16.
 const COLOUR: u64 = 0x0FFF_0FFF_0FFF_0FFF;
 
-/// A call of a mask and two strips: packs all words of the first, or unpacks
+/// A call of a mask and two lists of words: packs all words of the first, or unpacks
 /// into all words of the second. It answers the count of bits.
-pub type OfStrip = fn(u64, &[u64], &mut [u64]) -> u64;
+pub type OfWords = fn(u64, &[u64], &mut [u64]) -> u64;
 
 /// Pack or unpack, as the library offers it.
 #[derive(Clone, Copy)]
 pub struct Packing {
-    call: OfStrip,
-    /// The lengths of the two strips, for so many fields.
+    call: OfWords,
+    /// The lengths of the two lists, for so many fields.
     lengths: fn(usize) -> (usize, usize),
 }
 
@@ -39,12 +39,12 @@ pub const UNPACK: Packing = Packing {
 
 /// Pack beside its peers.
 pub fn pack(name: &str) {
-    let same_method: OfStrip = |mask, words, out| {
+    let same_method: OfWords = |mask, words, out| {
         let swaps = swaps_of::<true>(&decoded(mask).inverse);
         let gather = |word| delta_swaps::<true>(&swaps, word & mask);
         pack_by(mask, words, out, gather)
     };
-    let others: [(_, OfStrip); 2] = [
+    let others: [(_, OfWords); 2] = [
         ("Hacker's Delight for each word", |mask, words, out| {
             pack_by(mask, words, out, |word| compress(black_box(mask), word))
         }),
@@ -59,12 +59,12 @@ pub fn pack(name: &str) {
 
 /// Unpack beside its peers.
 pub fn unpack(name: &str) {
-    let same_method: OfStrip = |mask, packed, out| {
+    let same_method: OfWords = |mask, packed, out| {
         let swaps = swaps_of::<false>(&decoded(mask).butterfly);
         let scatter = |field| delta_swaps::<false>(&swaps, field) & mask;
         unpack_by(mask, packed, out, scatter)
     };
-    let others: [(_, OfStrip); 2] = [
+    let others: [(_, OfWords); 2] = [
         ("Hacker's Delight for each word", |mask, packed, out| {
             unpack_by(mask, packed, out, |field| expand(black_box(mask), field))
         }),
@@ -77,56 +77,57 @@ pub fn unpack(name: &str) {
     UNPACK.contest(name, same_method, others.into_iter().chain(bmi2));
 }
 
-/// A mask, a first strip, and a second one that every contender writes to.
-pub struct Strips {
+/// A mask, a first list of words, and a second one that every contender writes
+/// to.
+pub struct WordLists {
     mask: u64,
     first: Vec<u64>,
     second: RefCell<Vec<u64>>,
 }
 
-impl Strips {
-    fn call(&self, call: OfStrip) -> u64 {
+impl WordLists {
+    fn call(&self, call: OfWords) -> u64 {
         call(self.mask, &self.first, &mut self.second.borrow_mut())
     }
 
-    /// What a call answers and makes of the second strip, all ones before.
-    fn outcome(&self, call: OfStrip) -> (u64, Vec<u64>) {
+    /// What a call answers and makes of the second list, all ones before.
+    fn outcome(&self, call: OfWords) -> (u64, Vec<u64>) {
         self.second.borrow_mut().fill(u64::MAX);
         (self.call(call), self.second.borrow().clone())
     }
 }
 
 impl Packing {
-    /// The call, on strips of so many fields.
-    pub fn on(&self, strips: &Strips) -> u64 {
-        strips.call(self.call)
+    /// The call, on lists of so many fields.
+    pub fn on(&self, lists: &WordLists) -> u64 {
+        lists.call(self.call)
     }
 
-    /// Strips of so many fields.
-    pub fn strips(&self, random: &mut Random, fields: usize) -> Strips {
+    /// Lists of so many fields.
+    pub fn lists(&self, random: &mut Random, fields: usize) -> WordLists {
         let (first, second) = (self.lengths)(fields);
-        Strips {
+        WordLists {
             mask: COLOUR,
-            first: strip(random, first),
+            first: random_words(random, first),
             second: RefCell::new(vec![0; second]),
         }
     }
 
-    /// Checks each peer's strips here, its count of bits in the contest.
+    /// Checks each peer's words here, its count of bits in the contest.
     fn contest(
         self,
         name: &str,
-        same_method: OfStrip,
-        others: impl Iterator<Item = (&'static str, OfStrip)>,
+        same_method: OfWords,
+        others: impl Iterator<Item = (&'static str, OfWords)>,
     ) {
-        let sample = self.strips(&mut Random::default(), LONGEST);
+        let sample = self.lists(&mut Random::default(), LONGEST);
         let expected = sample.outcome(self.call);
         let checked = |peer| {
             assert!(sample.outcome(peer) == expected, "peers pack alike");
-            move |strips: &Strips| strips.call(peer)
+            move |lists: &WordLists| lists.call(peer)
         };
-        let strips = |random: &mut Random| self.strips(random, LONGEST);
-        let mut contest = Contest::of_parts(LONGEST, strips, move |strips| self.on(strips))
+        let lists = |random: &mut Random| self.lists(random, LONGEST);
+        let mut contest = Contest::of_parts(LONGEST, lists, move |lists| self.on(lists))
             .peer("the same method", checked(same_method))
             .within(1.2);
         for (name, peer) in others {

@@ -80,7 +80,7 @@ impl Given {
             self.values.push((argument.name, text));
         }
         match plain.next() {
-            Some(text) => Err(Failure::argument(format!("{text:?} is one too many"))),
+            Some(text) => Err(Failure::surplus(text)),
             None => Ok(()),
         }
     }
@@ -108,7 +108,7 @@ impl Given {
         self.option(name).expect("the command lists its arguments")
     }
 
-    /// Turns back two options that exclude each other.
+    /// Fails on two options that exclude each other.
     pub fn at_most_one(&self, names: [&str; 2]) -> Result<(), Failure> {
         if names.iter().all(|name| self.has(name)) {
             let [one, other] = names;

@@ -15,8 +15,8 @@ pub struct Command {
     pub arguments: &'static [Argument],
     /// The options that it has, in groups.
     pub options: &'static [&'static [Choice]],
-    /// What else there is to know.
-    pub notes: &'static str,
+    /// What else there is to know, by paragraphs.
+    pub notes: &'static [&'static str],
     /// How its call can be refused.
     pub refusals: &'static [Refusal],
     /// Calls and what they print.
@@ -56,7 +56,7 @@ pub struct Example {
 /// The width of a word, which many commands need.
 pub const WIDTH: Argument = Argument {
     name: "WIDTH",
-    about: "8, 16, 32 or 64",
+    about: "8, 16, 32 or 64; w for short",
 };
 
 /// The mask, which many commands need.

@@ -43,8 +43,8 @@ pub const CONDITIONS: [&str; Refusal::ALL.len()] = [
     "permutation not realised by the one network named",
     "kind not 1 to 10, or in kind 5 r1 not 1 to 4",
     "a register number in use above 15",
-    "a above b, b above the length of the strip that a and b cut, or either strip above 2,048 words",
-    "the other strip shorter than its bits need",
+    "a above b, b above the length of the words that a and b cut, or either list above 2,048 words",
+    "the other list of words shorter than its bits need",
 ];
 
 /// The condition of a refusal.
@@ -57,6 +57,11 @@ impl Failure {
     pub fn argument(problem: String) -> Self {
         let command = None;
         Failure::Argument { problem, command }
+    }
+
+    /// An argument after the last one that is expected.
+    pub fn surplus(text: &str) -> Self {
+        Failure::argument(format!("{text:?} is one too many"))
     }
 
     /// The same failure, of this command.

@@ -1,4 +1,4 @@
-//! What `--help` prints.
+//! What `--help` and `--version` print.
 
 use crate::command::{Command, Example};
 use crate::commands::COMMANDS;
@@ -9,12 +9,14 @@ Tigbayon: gathers, scatters, groups, permutes and packs bits, by a library that 
 
 Usage: tigbayon COMMAND ARGUMENTS [OPTIONS]
        tigbayon COMMAND --help, or tigbayon help COMMAND
+       tigbayon --version
 ";
 
 const NOTES: &str = "\
 Bits are counted from 0 at the right. Words, masks and controls are hexadecimal,
 with 0x or without; all other numbers are decimal. Lists have commas between their
-entries, or spaces if quoted. In controls one means pass, zero means swap.
+entries, or spaces if quoted. In controls one means pass, zero means swap. The width
+is w for short.
 ";
 
 const EXAMPLES: [Example; 3] = [
@@ -31,6 +33,11 @@ const EXAMPLES: [Example; 3] = [
         prints: "refused 1: width not 8, 16, 32, 64",
     },
 ];
+
+/// The version, which is the library's.
+pub fn version() -> String {
+    format!("tigbayon {}\n", env!("CARGO_PKG_VERSION"))
+}
 
 /// The help of the whole.
 pub fn overall() -> String {
@@ -70,7 +77,7 @@ pub fn of(command: &Command) -> String {
         format!("Usage: tigbayon {called}{options}\n"),
         table("Arguments", arguments),
         table("Options", choices),
-        command.notes.to_string(),
+        command.notes.join("\n"),
         table("Refusals", refusals),
         examples(command.examples),
     ];

@@ -24,6 +24,9 @@ use std::process::ExitCode;
 /// What asks for help, as the first argument or among those of a command.
 const HELP: [&str; 2] = ["--help", "-h"];
 
+/// What asks for the version, as the only argument.
+const VERSION: &str = "--version";
+
 fn main() -> ExitCode {
     let outcome = read(env::args_os().skip(1)).and_then(|args| answer(&args));
     match outcome.and_then(Answer::deliver) {
@@ -50,14 +53,17 @@ fn answer(args: &[String]) -> Result<Answer, Failure> {
     let Some((first, rest)) = args.split_first() else {
         return Err(Failure::argument("COMMAND is missing".to_string()));
     };
-    let first = first.as_str();
-    if first != "help" && !HELP.contains(&first) {
-        return perform(commands::find(first)?, rest);
-    }
-    match rest {
-        [] => Ok(Answer::of(help::overall())),
-        [name] => Ok(Answer::of(help::of(commands::find(name)?))),
-        [_, surplus, ..] => Err(Failure::argument(format!("{surplus:?} is one too many"))),
+    match first.as_str() {
+        VERSION => match rest {
+            [] => Ok(Answer::of(help::version())),
+            [surplus, ..] => Err(Failure::surplus(surplus)),
+        },
+        first if first == "help" || HELP.contains(&first) => match rest {
+            [] => Ok(Answer::of(help::overall())),
+            [name] => Ok(Answer::of(help::of(commands::find(name)?))),
+            [_, surplus, ..] => Err(Failure::surplus(surplus)),
+        },
+        name => perform(commands::find(name)?, rest),
     }
 }
 

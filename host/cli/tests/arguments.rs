@@ -25,6 +25,9 @@ fn commands() {
     assert_unread(&["turn"], "COMMAND is \"turn\", expected one of gather, ");
     assert_unread(&["help", "turn"], "COMMAND is \"turn\"");
     assert_unread(&[""], "COMMAND is \"\"");
+    assert_unread(&["--version", "1"], "\"1\" is one too many");
+    assert_unread(&["help", "run", "1"], "\"1\" is one too many");
+    assert_unread(&["run", "--version"], "--version is no option of run");
 }
 
 #[test]

@@ -1,4 +1,4 @@
-//! The help: what it shows is what happens.
+//! The help, where what it shows is what happens, and the version.
 
 mod support;
 
@@ -67,6 +67,13 @@ fn every_way_to_ask() {
         let usage = format!("\nUsage: tigbayon {name} ");
         assert!(help.contains(&usage), "{help}");
     }
+}
+
+#[test]
+fn the_version() {
+    let version = format!("tigbayon {}\n", env!("CARGO_PKG_VERSION"));
+    assert_eq!(prints(&["--version"]), version);
+    assert!(prints(&["--help"]).contains("\n       tigbayon --version\n"));
 }
 
 #[test]

@@ -121,7 +121,7 @@ fn by_range() {
 }
 
 #[test]
-fn by_a_short_strip() {
+fn by_too_few_words() {
     let call = ["pack", "0xFFF", "1,2,3,4,5,0x9A6", "0", "6"];
     for lent in [["--out", "7"], ["--length", "1"], ["--out", ""]] {
         assert_refused(&[&call[..], &lent].concat(), Refusal::Short);

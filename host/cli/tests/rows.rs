@@ -1,4 +1,4 @@
-//! Paper 01's reel of examples.
+//! The rows of examples of paper 01.
 
 mod support;
 
@@ -100,7 +100,7 @@ fn controls_can_be_given_again() {
 }
 
 #[test]
-fn strips_that_are_lent() {
+fn words_that_are_lent() {
     let call = "pack 0xFFF 1,2,3,4,5,0x9A6";
     assert_prints(&format!("{call} 0 2 --out 7,7"), &["24 bits", "0x2001,0x7"]);
     assert_prints(

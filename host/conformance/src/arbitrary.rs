@@ -2,9 +2,9 @@
 //! lengths and the cuts reach their limits and beyond.
 
 use crate::controls::Controls;
+use crate::packing::{words_needed, LONGEST};
 use crate::programs::{cycles, damage, program};
 use crate::samples::{any_controls, any_permutation, any_word, Random};
-use crate::strips::{words_needed, LONGEST};
 use crate::unit::Operation;
 use crate::WIDTHS;
 
@@ -65,7 +65,7 @@ fn bytes(random: &mut Random, count: u32) -> Vec<u8> {
     (0..count).map(|_| random.byte()).collect()
 }
 
-/// The length of a strip: mostly short, or around the greatest.
+/// The length of a list of words: mostly short, or around the greatest.
 pub fn length(random: &mut Random) -> usize {
     match random.below(32) {
         0 => LONGEST - 1 + random.below(3) as usize,
@@ -73,7 +73,7 @@ pub fn length(random: &mut Random) -> usize {
     }
 }
 
-/// Numbers a and b for a strip of this length; some do not cut it.
+/// Numbers a and b for a list of words of this length; some do not cut it.
 pub fn cut(random: &mut Random, length: usize) -> (usize, usize) {
     let [one, other] = [(); 2].map(|()| random.below(length as u32 + 1) as usize);
     match random.below(16) {
@@ -85,7 +85,7 @@ pub fn cut(random: &mut Random, length: usize) -> (usize, usize) {
     }
 }
 
-/// A number around the ends of a strip, or far beyond.
+/// A number around the ends of a list of words, or far beyond.
 fn number(random: &mut Random, length: usize) -> usize {
     let any = random.word() as usize;
     let near = random.below(4) as usize;
@@ -97,8 +97,8 @@ fn number(random: &mut Random, length: usize) -> usize {
     random.pick(&[&beyond[..], &around, &wrapping].concat())
 }
 
-/// The length of the strip that a and b do not cut; some are shorter by a word
-/// than the bits need.
+/// The length of the list of words that a and b do not cut; some are shorter by a
+/// word than the bits need.
 pub fn other_length(random: &mut Random, mask: u64, (a, b): (usize, usize)) -> usize {
     if a > b || b > LONGEST {
         return length(random);

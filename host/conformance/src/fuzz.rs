@@ -6,10 +6,10 @@ use crate::arbitrary::{permutation, register, widths, word};
 use crate::call::{Call, BUTTERFLY, DECODE, GATHER, GROUP, INVERSE, SCATTER};
 use crate::call::{PREPARE_BUTTERFLY, PREPARE_INVERSE, ROUTE, ROUTE_BUTTERFLY, ROUTE_INVERSE};
 use crate::controls::Controls;
+use crate::packing::{PackingCall, PACK, UNPACK};
 use crate::prepared::{Passage, THROUGH_BUTTERFLY, THROUGH_INVERSE};
 use crate::programs::bank;
 use crate::samples::{any_controls, any_swaps, any_word, Random};
-use crate::strips::{StripCall, PACK, UNPACK};
 use crate::unit::{operate, read, run, write};
 use crate::WIDTHS;
 use model::prepared::Swaps;
@@ -126,12 +126,12 @@ fn routed<R: Copy + Debug + PartialEq>(random: &mut Random, call: Call<[u8], R, 
     call.check(handed, &permutation(random, width), ()).refusal
 }
 
-fn packed(random: &mut Random, call: StripCall) -> u8 {
+fn packed(random: &mut Random, call: PackingCall) -> u8 {
     let mask = word(random, 64);
     let length = length(random);
     let (a, b) = cut(random, length);
     let other = other_length(random, mask, (a, b));
-    let (first, mut second) = call.strips(random, length, other);
+    let (first, mut second) = call.lists(random, length, other);
     call.check(mask, &first, a, b, &mut second).refusal
 }
 

@@ -5,13 +5,13 @@ pub mod call;
 pub mod controls;
 pub mod fuzz;
 pub mod guards;
+pub mod packing;
 pub mod permutations;
 pub mod prepared;
 pub mod programs;
 pub mod refusals;
 pub mod samples;
 pub mod stack;
-pub mod strips;
 pub mod unit;
 
 /// The accepted widths.

@@ -1,5 +1,5 @@
-//! Random and structured words, controls, permutations and strips, the same in
-//! every run.
+//! Random and structured words, controls and permutations, the same in every
+//! run.
 
 use crate::controls::{stages, Controls};
 use crate::low_ones;
@@ -148,7 +148,7 @@ pub fn mask_of(random: &mut Random, ones: u32) -> u64 {
 }
 
 /// So many random words.
-pub fn strip(random: &mut Random, length: usize) -> Vec<u64> {
+pub fn random_words(random: &mut Random, length: usize) -> Vec<u64> {
     (0..length).map(|_| random.word()).collect()
 }
 

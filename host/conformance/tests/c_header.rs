@@ -3,12 +3,13 @@
 
 use std::fs;
 use std::mem::{offset_of, size_of};
-use std::path::Path;
+use std::path::{Path, PathBuf};
 use std::process::Command;
 use tigbayon::{Refusal, TbBank, TbCarried, TbControls1, TbControls2};
 use tigbayon::{TbCycles, TbGathered, TbPacked, TbPrepared, TbRegister, TbRun};
 
 const CRATE: &str = env!("CARGO_MANIFEST_DIR");
+const README: &str = include_str!("../../../README.md");
 
 /// What it prints of prepared networks.
 const PREPARED: &str = "\
@@ -23,8 +24,8 @@ const PREPARED: &str = "\
     butterfly_prepared 380000000\n\
     inverse_prepared 2\n";
 
-/// What pack and unpack answer, and the words of the strips then.
-const STRIPS: &str = "\
+/// What pack and unpack answer, and the words then.
+const PACKING: &str = "\
     pack 0 72: 6005004003002001 9a 7\n\
     unpack 0 72: 7 1 2 3 4 5 9a6 7\n\
     pack 10 0: 6005004003002001 9a 7\n\
@@ -56,24 +57,43 @@ const UNIT: &str = "\
     write 8\n\
     list: 8 0 0 3 3 1 2 3\n";
 
-/// Compiles a file with the archive and answers what it prints.
-fn compile_and_run(file: &Path, compiler: &str, language: &str, standard: &str) -> String {
-    let name = file.file_stem().expect("a file").to_string_lossy();
-    let program = Path::new(env!("CARGO_TARGET_TMPDIR")).join(format!("{name}-{standard}"));
-    let status = Command::new(compiler)
+/// How the command lines begin that compile C, C++, and C without its library.
+const C: [&str; 4] = ["cc", "-std=c99", "-x", "c"];
+const CPP: [&str; 4] = ["c++", "-std=c++11", "-x", "c++"];
+const FREESTANDING: [&str; 5] = ["cc", "-Os", "-ffreestanding", "-nostdlib", "-static"];
+
+/// Where a program of the tests lies, or its source.
+fn temporary(name: &str) -> PathBuf {
+    Path::new(env!("CARGO_TARGET_TMPDIR")).join(name)
+}
+
+/// A source beside the tests.
+fn source(name: &str) -> PathBuf {
+    Path::new(CRATE).join("tests/c").join(name)
+}
+
+/// Compiles a file with the archive into a program of this name, by a command
+/// line that begins so.
+fn compile(begin: &[&str], file: &Path, name: &str) -> PathBuf {
+    let program = temporary(name);
+    let status = Command::new(begin[0])
+        .args(&begin[1..])
         .args(["-Wall", "-Wextra", "-Werror", "-pedantic"])
-        .arg(format!("-std={standard}"))
         .arg(format!("-I{CRATE}/../../include"))
-        .args(["-x", language])
         .arg(file)
         .args(["-x", "none", env!("TIGBAYON_ARCHIVE")])
         .arg("-o")
         .arg(&program)
         .status()
         .expect("the compiler starts");
-    assert!(status.success(), "{compiler} -std={standard}");
-    let output = Command::new(&program).output().expect("the program starts");
-    assert!(output.status.success(), "{}", program.display());
+    assert!(status.success(), "{begin:?}");
+    program
+}
+
+/// What a command prints.
+fn printed(command: &mut Command) -> String {
+    let output = command.output().expect("the program starts");
+    assert!(output.status.success(), "{command:?}");
     String::from_utf8(output.stdout).expect("ASCII")
 }
 
@@ -131,31 +151,62 @@ fn expected() -> String {
         permutation 0 4 2 3 1 5 6 7\n";
     let layouts = layouts();
     let numbers = numbers.concat();
-    format!("{layouts}numbers 0{numbers}\n{answers}{PREPARED}{STRIPS}{UNIT}")
+    format!("{layouts}numbers 0{numbers}\n{answers}{PREPARED}{PACKING}{UNIT}")
 }
 
-fn interface(compiler: &str, language: &str, standard: &str) -> String {
-    let file = Path::new(CRATE).join("tests/c/interface.c");
-    compile_and_run(&file, compiler, language, standard)
+fn interface(begin: &[&str]) -> String {
+    let name = format!("interface-{}", begin[0]);
+    printed(&mut Command::new(compile(
+        begin,
+        &source("interface.c"),
+        &name,
+    )))
 }
 
 #[test]
 fn in_c99() {
-    assert_eq!(interface("cc", "c", "c99"), expected());
+    assert_eq!(interface(&C), expected());
 }
 
 #[test]
 fn in_cpp() {
-    assert_eq!(interface("c++", "c++", "c++11"), expected());
+    assert_eq!(interface(&CPP), expected());
 }
 
 /// The repository's README shows how to link; its program prints what it says.
 #[test]
 fn readme() {
-    let readme = include_str!("../../../README.md");
-    let (_, rest) = readme.split_once("```c\n").expect("a program in C");
+    let (_, rest) = README.split_once("```c\n").expect("a program in C");
     let (program, _) = rest.split_once("```").expect("its end");
-    let file = Path::new(env!("CARGO_TARGET_TMPDIR")).join("readme.c");
+    let file = temporary("readme.c");
     fs::write(&file, program).expect("a file");
-    assert_eq!(compile_and_run(&file, "cc", "c", "c99"), "123456789abc\n");
+    let program = compile(&C, &file, "readme");
+    assert_eq!(printed(&mut Command::new(program)), "123456789abc\n");
+}
+
+/// Of the C library the archive needs memcpy and memset alone.
+#[cfg(target_os = "linux")]
+#[test]
+fn without_a_c_library() {
+    let program = compile(&FREESTANDING, &source("freestanding.c"), "freestanding");
+    assert_eq!(printed(&mut Command::new(program)), "");
+}
+
+/// A program has of the archive what it calls. That it stays below 1 KB is in the
+/// README, with the command.
+#[cfg(target_os = "linux")]
+#[test]
+fn no_more_than_is_called() {
+    let sections = ["-ffunction-sections", "-Wl,--gc-sections"];
+    let begin = [&FREESTANDING[..], &sections].concat();
+    assert!(README.contains(&begin.join(" ")));
+    let program = compile(&begin, &source("freestanding.c"), "collected");
+    assert_eq!(printed(&mut Command::new(&program)), "");
+    let sizes = printed(Command::new("size").arg(program));
+    let text = sizes
+        .lines()
+        .nth(1)
+        .and_then(|sizes| sizes.split_whitespace().next());
+    let text: u32 = text.expect("a size").parse().expect("a number");
+    assert!(text < 1_024, "{sizes}");
 }

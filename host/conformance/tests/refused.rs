@@ -50,7 +50,7 @@ fn control_bits() -> impl Iterator<Item = (usize, u32)> {
     (0..6).flat_map(|stage| (0..32).map(move |bit| (stage, bit)))
 }
 
-/// "a column uses w/2 bits", and there are L columns.
+/// "a column uses w/2 bits", and there are L stages.
 fn is_used(width: u32, stage: usize, bit: u32) -> bool {
     stage < stages(width) && bit < width / 2
 }

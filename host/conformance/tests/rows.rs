@@ -1,7 +1,7 @@
-//! Paper 01's reel of examples.
+//! The rows of examples of paper 01.
 
 use conformance::call::{decode, route, BUTTERFLY, GATHER, GROUP, ROUTE_ONE, SCATTER};
-use conformance::strips::PACK;
+use conformance::packing::PACK;
 use conformance::unit::{run, Bank, End, Run};
 use model::refusal::Answer;
 
@@ -44,7 +44,7 @@ fn row_7_route_of_the_reversal() {
     assert_eq!(routed.inverse, [0; 6]);
 }
 
-/// The order of rows 8 and 9.
+/// The permutation of rows 8 and 9.
 const BITS_1_AND_4_SWAPPED: [u8; 8] = [0, 4, 2, 3, 1, 5, 6, 7];
 
 #[test]

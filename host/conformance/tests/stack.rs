@@ -3,11 +3,11 @@
 
 use conformance::arbitrary::{controls, cut, list, operation, permutation};
 use conformance::arbitrary::{register, widths, word};
+use conformance::packing::LONGEST;
 use conformance::permutations::{one_loop, FIXED};
 use conformance::programs::{bank, program};
-use conformance::samples::{any_swaps, random_permutation, strip, Random};
+use conformance::samples::{any_swaps, random_permutation, random_words, Random};
 use conformance::stack::bytes_used;
-use conformance::strips::LONGEST;
 use conformance::unit::lent;
 use conformance::WIDTHS;
 use model::routing::valid_stage;
@@ -141,7 +141,7 @@ fn routed<A>(gauge: &mut Gauge, call: impl Fn(u32, &[u8]) -> A) {
 fn packed(gauge: &mut Gauge, call: impl Fn(u64, &[u64], usize, usize, &mut [u64]) -> TbPacked) {
     let random = &mut gauge.random;
     let mask = word(random, 64);
-    let first = strip(random, LONGEST);
+    let first = random_words(random, LONGEST);
     let mut second = first.clone();
     for (a, b) in [(0, LONGEST), cut(random, LONGEST)] {
         gauge.measure(|| call(mask, &first, a, b, &mut second));

@@ -4,7 +4,8 @@
 //! Each definition goes bit by bit and follows the sentence of paper 01 that
 //! it quotes. Nothing here is meant to be fast, and nothing is shared with the
 //! library. The papers' "line" is a bit here, their "column" a stage, their
-//! "settings" are controls, their "order" is a permutation.
+//! "settings" are controls, their "order" is a permutation, their "strip" a list
+//! of words.
 
 pub mod bits;
 pub mod decoder;

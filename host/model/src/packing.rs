@@ -1,4 +1,4 @@
-//! Packed fields ("Strips" of paper 01).
+//! Packed words ("Strips" of paper 01).
 
 use crate::bits::{bits_of, marked, word_of};
 use crate::refusal::{Answer, RANGE, SHORT};
@@ -57,7 +57,7 @@ pub fn unpack(mask: u64, packed: &[u64], a: usize, b: usize, out: &mut [u64]) ->
         for written in &mut out[a..b] {
             let mut word = vec![false; WIDTH];
             for &m in &marked {
-                word[m] = stream.next().expect("the strip holds the bits");
+                word[m] = stream.next().expect("the words hold the bits");
                 count += 1;
             }
             *written = word_of(&word);
@@ -66,8 +66,8 @@ pub fn unpack(mask: u64, packed: &[u64], a: usize, b: usize, out: &mut [u64]) ->
     })
 }
 
-/// The refusals of both calls, each with whether it applies: a and b cut a
-/// strip of length `cut`, and the other one holds the k×(b-a) bits.
+/// The refusals of both calls, each with whether it applies: a and b cut
+/// words of length `cut`, and the other list holds the k×(b-a) bits.
 fn conditions(k: usize, a: usize, b: usize, cut: usize, other: usize) -> [(u8, bool); 2] {
     let bits = k as u128 * b.saturating_sub(a) as u128;
     let room = WIDTH as u128 * other as u128;

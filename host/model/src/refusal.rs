@@ -1,4 +1,5 @@
-//! Calls turned back: the numbers of paper 01's table, and the lowest of them.
+//! Refused calls ("Calls turned back" of paper 01): the numbers of its table, and
+//! the lowest of them.
 
 /// The answer's number where the call is carried out.
 pub const NONE: u8 = 0;

@@ -203,8 +203,8 @@ unsafe extern "C" {
     pub safe fn tb_write(bank: &mut TbBank, number: u8, value: u64) -> u8;
 }
 
-/// The calls of a permutation, of strips or of a list, which cross as a pointer
-/// and a length.
+/// The calls of a permutation, of lists of words or of operations, which cross as
+/// pointers and lengths.
 mod by_pointer {
     use super::{TbBank, TbControls1, TbControls2, TbPacked, TbRun};
 

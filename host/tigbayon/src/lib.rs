@@ -4,10 +4,10 @@
 //! and above, bits counted from 0 at the right; the ones of a mask mark bits. A
 //! permutation of width w names each bit below w once: entry p is the bit that
 //! place p takes. A [`PreparedButterfly`] or [`PreparedInverse`] is a network
-//! made ready once for many words. A strip is a row of at most 2,048 words of
-//! width 64. A [`Bank`] holds the registers of a unit that performs lists of
-//! operations of width 64. Each function here is answered for every input: with
-//! its result, or with the lowest [`Refusal`] that applies.
+//! prepared once for many words. Packing goes from one list of words of width 64
+//! into another, each of at most 2,048. A [`Bank`] holds the registers of a unit
+//! that performs lists of operations of width 64. Each function here is answered
+//! for every input: with its result, or with the lowest [`Refusal`] that applies.
 
 mod ffi;
 mod gather;

@@ -1,4 +1,4 @@
-//! Strips of gathered fields, laid end to end.
+//! Packed words: gathered fields, laid end to end.
 
 use crate::{ffi, Refusal};
 use std::ops::Range;
@@ -12,8 +12,8 @@ use std::ops::Range;
 ///
 /// # Errors
 ///
-/// [`Refusal::Range`], if `range` does not lie within `words` or a strip is too
-/// long, and [`Refusal::Short`], if `out` cannot hold the bits.
+/// [`Refusal::Range`], if `range` does not lie within `words` or either list is
+/// above 2,048 words, and [`Refusal::Short`], if `out` cannot hold the bits.
 ///
 /// ```
 /// use tigbayon::{pack, Refusal};
@@ -44,8 +44,9 @@ pub fn pack(
 ///
 /// # Errors
 ///
-/// [`Refusal::Range`], if `range` does not lie within `out` or a strip is too
-/// long, and [`Refusal::Short`], if `packed` does not hold the bits.
+/// [`Refusal::Range`], if `range` does not lie within `out` or either list is
+/// above 2,048 words, and [`Refusal::Short`], if `packed` does not hold the
+/// bits.
 ///
 /// ```
 /// use tigbayon::{unpack, Refusal};

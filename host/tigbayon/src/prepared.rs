@@ -1,8 +1,8 @@
-//! Both networks made ready for many words.
+//! Both networks prepared for many words.
 
 use crate::{ffi, Controls, Refusal};
 
-/// A butterfly made ready: its controls are checked and brought to their bits
+/// A prepared butterfly: its controls are checked and brought to their bits
 /// once, and then any number of words is sent through it, none of them refused.
 ///
 /// ```
@@ -21,14 +21,14 @@ pub struct PreparedButterfly {
     swaps: [u64; 6],
 }
 
-/// An inverse butterfly made ready, as a [`PreparedButterfly`] is.
+/// A prepared inverse butterfly, as a [`PreparedButterfly`] is.
 #[derive(Clone, Copy, Debug, PartialEq, Eq, Hash)]
 pub struct PreparedInverse {
     swaps: [u64; 6],
 }
 
 impl PreparedButterfly {
-    /// Makes the butterfly with these controls ready.
+    /// Prepares the butterfly with these controls.
     ///
     /// # Errors
     ///
@@ -91,7 +91,7 @@ impl PreparedButterfly {
 }
 
 impl PreparedInverse {
-    /// Makes the inverse with these controls ready.
+    /// Prepares the inverse with these controls.
     ///
     /// # Errors
     ///

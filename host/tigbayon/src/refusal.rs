@@ -3,7 +3,7 @@
 use std::error::Error;
 use std::fmt;
 
-/// Why a call was turned back. Where several conditions apply to a call, the
+/// Why a call was refused. Where several conditions apply to a call, the
 /// lowest number is answered.
 #[derive(Clone, Copy, Debug, PartialEq, Eq, PartialOrd, Ord, Hash)]
 #[non_exhaustive]
@@ -26,10 +26,10 @@ pub enum Refusal {
     Kind = 7,
     /// The number of a register in use is above 15.
     Register = 8,
-    /// The range begins after its end, or ends beyond the strip it cuts, or
-    /// one of the strips is longer than 2,048 words.
+    /// The range begins after its end, or ends beyond the words it cuts, or
+    /// either list of words is longer than 2,048.
     Range = 9,
-    /// The other strip is shorter than its bits need.
+    /// The other list of words is shorter than its bits need.
     Short = 10,
 }
 
@@ -69,8 +69,8 @@ impl Refusal {
             Refusal::NotRealised => "permutation not realised by the one network named",
             Refusal::Kind => "kind not 1 to 10, or in kind 5 r1 not 1 to 4",
             Refusal::Register => "register number in use above 15",
-            Refusal::Range => "range not within its strip, or a strip above 2,048 words",
-            Refusal::Short => "other strip shorter than its bits need",
+            Refusal::Range => "range not within its words, or a list above 2,048 words",
+            Refusal::Short => "other list of words shorter than its bits need",
         }
     }
 

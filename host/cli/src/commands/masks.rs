@@ -23,7 +23,7 @@ pub const GATHER: Command = Command {
     about: "brings the marked bits to the right in order, zeros above",
     arguments: ARGUMENTS,
     options: &[],
-    notes: "",
+    notes: &[],
     refusals: REFUSALS,
     examples: &[
         Example {
@@ -48,7 +48,7 @@ pub const SCATTER: Command = Command {
     about: "takes the bits from the right to the marked places, zeros between",
     arguments: ARGUMENTS,
     options: &[],
-    notes: "",
+    notes: &[],
     refusals: REFUSALS,
     examples: &[Example {
         call: "scatter 8 0xAD 0x1A",
@@ -63,7 +63,7 @@ pub const GROUP: Command = Command {
     about: "brings the marked bits to the right, the others to the left, in order",
     arguments: ARGUMENTS,
     options: &[],
-    notes: "",
+    notes: &[],
     refusals: REFUSALS,
     examples: &[
         Example {

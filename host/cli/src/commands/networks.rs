@@ -26,7 +26,7 @@ pub const BUTTERFLY: Command = Command {
     about: "sends the word through the butterfly, distances w/2, .., 2, 1",
     arguments: ARGUMENTS,
     options: &[],
-    notes: "",
+    notes: &[],
     refusals: REFUSALS,
     examples: &[
         Example {
@@ -51,7 +51,7 @@ pub const INVERSE: Command = Command {
     about: "sends the word through the inverse butterfly, distances 1, 2, .., w/2",
     arguments: ARGUMENTS,
     options: &[],
-    notes: "",
+    notes: &[],
     refusals: REFUSALS,
     examples: &[
         Example {
@@ -72,7 +72,7 @@ pub const DECODE: Command = Command {
     about: "finds the controls by which the networks scatter and gather",
     arguments: &[WIDTH, MASK],
     options: &[&drawn::CHOICES],
-    notes: drawn::NOTES,
+    notes: &[drawn::NOTES],
     refusals: &[Refusal::Width, Refusal::Above],
     examples: &[
         Example {

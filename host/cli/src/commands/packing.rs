@@ -8,14 +8,14 @@ use crate::number::{hex_list, Base};
 use std::ops::Range;
 use tigbayon::Refusal;
 
-/// The options that lend the second strip.
+/// The options that lend the words to write into.
 const OUT: [&str; 2] = ["--out", "--length"];
 
-/// A strip longer than 2,048 words is refused, whatever its length and words.
+/// A list of more than 2,048 words is refused, whatever its length and words.
 const TOO_LONG: usize = 2049;
 
 const CHOICES: [Choice; 2] = [
-    Choice::valued(OUT[0], "WORDS", "the strip to write into, hexadecimal"),
+    Choice::valued(OUT[0], "WORDS", "the words to write into, hexadecimal"),
     Choice::valued(
         OUT[1],
         "N",
@@ -24,7 +24,7 @@ const CHOICES: [Choice; 2] = [
 ];
 
 const NOTES: &str = "\
-Prints the count of bits, then all words of the strip that is written into.
+Prints the count of bits, then all words of the list that is written into.
 ";
 
 const REFUSALS: &[Refusal] = &[Refusal::Range, Refusal::Short];
@@ -53,7 +53,7 @@ pub const PACK: Command = Command {
         B,
     ],
     options: &[&CHOICES],
-    notes: NOTES,
+    notes: &[NOTES],
     refusals: REFUSALS,
     examples: &[
         Example {
@@ -66,7 +66,7 @@ pub const PACK: Command = Command {
         },
         Example {
             call: "pack 0xFFF 1,2,3,4,5,0x9A6 0 6 --length 1",
-            prints: "refused 10: the other strip shorter than its bits need",
+            prints: "refused 10: the other list of words shorter than its bits need",
         },
     ],
     perform: |given| {
@@ -75,7 +75,7 @@ pub const PACK: Command = Command {
             let bits = mask.count_ones() as usize * count;
             bits.div_ceil(u64::BITS as usize)
         };
-        between_strips(given, "WORDS", tigbayon::pack, enough)
+        between_lists(given, "WORDS", tigbayon::pack, enough)
     },
 };
 
@@ -93,7 +93,7 @@ pub const UNPACK: Command = Command {
         B,
     ],
     options: &[&CHOICES],
-    notes: NOTES,
+    notes: &[NOTES],
     refusals: REFUSALS,
     examples: &[
         Example {
@@ -107,15 +107,15 @@ pub const UNPACK: Command = Command {
     ],
     perform: |given| {
         let enough = |_: u64, _: &[u64], range: Range<usize>| range.end;
-        between_strips(given, "PACKED", tigbayon::unpack, enough)
+        between_lists(given, "PACKED", tigbayon::unpack, enough)
     },
 };
 
-/// A call that reads one strip and writes into another.
+/// A call that reads one list of words and writes into another.
 type Call = fn(u64, &[u64], Range<usize>, &mut [u64]) -> Result<u64, Refusal>;
 
-/// Makes the call on the strip of this name and the one that is lent.
-fn between_strips(
+/// Makes the call on the words of this name and those that are lent.
+fn between_lists(
     given: &Given,
     name: &str,
     call: Call,
@@ -134,7 +134,7 @@ fn between_strips(
     Ok(Answer::of(format!("{bits} bits\n{written}")))
 }
 
-/// The strip to write into.
+/// The words to write into.
 fn out(given: &Given, enough: impl FnOnce() -> usize) -> Result<Vec<u64>, Failure> {
     given.at_most_one(OUT)?;
     if let Some(words) = given.option(OUT[0]) {

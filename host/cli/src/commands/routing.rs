@@ -12,6 +12,13 @@ use tigbayon::Refusal;
 
 const ALONE: [&str; 2] = ["--butterfly", "--inverse"];
 
+/// What first means, in the words of include/tigbayon.h.
+const FIRST: &str = "\
+Any other controls that realise the permutation come later: at the first switch where
+the two sets differ, going through the butterfly's stages and then the inverse's, each
+from switch 0 up, the first set passes. Of one network alone there is at most one set.
+";
+
 /// Route.
 pub const ROUTE: Command = Command {
     name: "route",
@@ -30,7 +37,7 @@ pub const ROUTE: Command = Command {
         ],
         &drawn::CHOICES,
     ],
-    notes: drawn::NOTES,
+    notes: &[FIRST, drawn::NOTES],
     refusals: &[
         Refusal::Width,
         Refusal::Length,

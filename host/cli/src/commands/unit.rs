@@ -30,7 +30,7 @@ pub const RUN: Command = Command {
         )
         .repeated(),
     ]],
-    notes: "\
+    notes: &["\
 Kind  Does                                                           Cycles
   1   r1 = r2 through the butterfly at b                                  1
   2   r1 = r2 through the inverse at ib                                   1
@@ -46,7 +46,7 @@ Kind  Does                                                           Cycles
 
 Registers are set first, each by a call of its own. Prints how the run ended, and every
 register that is not zero then.
-",
+"],
     refusals: &[Refusal::Length, Refusal::Kind, Refusal::Register],
     examples: &[
         Example {

@@ -129,7 +129,7 @@ static void print_packed(const char *call, TbPacked answer, const uint64_t *out,
     print_words(out, count);
 }
 
-static void print_strips(void)
+static void print_packing(void)
 {
     uint64_t words[6] = {1, 2, 3, 4, 5, 0x9A6};
     uint64_t packed[3] = {7, 7, 7};
@@ -232,7 +232,7 @@ int main(void)
     print_carried("inverse", tb_inverse(12, decoded.inverse, 0xB6));
     print_routed();
     print_prepared(decoded);
-    print_strips();
+    print_packing();
     print_unit();
     return 0;
 }

@@ -1,13 +1,13 @@
-//! Damaged cuts and strips get the lowest number that applies, zero bits, and
+//! Damaged cuts and lists of words get the lowest number that applies, zero bits, and
 //! every word stays as it was.
 
+use conformance::packing::{words_needed, COUNTS, LONGEST, PACK, PACKING_CALLS, UNPACK};
 use conformance::samples::{mask_of, Random};
-use conformance::strips::{words_needed, COUNTS, LONGEST, PACK, STRIP_CALLS, UNPACK};
 
-/// The words of paper 01's case 11.
-const CASE_11: [u64; 6] = [1, 2, 3, 4, 5, 0x9A6];
+/// The words of row 11 of paper 01.
+const ROW_11: [u64; 6] = [1, 2, 3, 4, 5, 0x9A6];
 
-/// Numbers at, around and far beyond the ends of a strip of this length, among
+/// Numbers at, around and far beyond the ends of a list of this length, among
 /// them some that a narrower integer would cut to lie within it.
 fn numbers(length: usize) -> Vec<usize> {
     let half = 1 << (usize::BITS / 2);
@@ -33,7 +33,7 @@ fn masks(random: &mut Random) -> [u64; COUNTS.len()] {
     COUNTS.map(|count| mask_of(random, count))
 }
 
-/// The number of a call on strips of these lengths.
+/// The number of a call on lists of these lengths.
 fn number(mask: u64, (a, b): (usize, usize), cut: usize, other: usize) -> u8 {
     if a > b || b > cut || cut > LONGEST || other > LONGEST {
         9
@@ -44,17 +44,17 @@ fn number(mask: u64, (a, b): (usize, usize), cut: usize, other: usize) -> u8 {
     }
 }
 
-/// Checks both calls on random strips of these lengths.
+/// Checks both calls on random words, lists of these lengths.
 fn assert_number(random: &mut Random, mask: u64, cut: (usize, usize), length: usize, other: usize) {
-    for call in STRIP_CALLS {
-        let (first, mut second) = call.strips(random, length, other);
+    for call in PACKING_CALLS {
+        let (first, mut second) = call.lists(random, length, other);
         let number = number(mask, cut, length, other);
         call.assert_number(number, mask, &first, cut, &mut second);
     }
 }
 
 #[test]
-fn every_cut_that_does_not_lie_within_its_strip_is_refusal_9() {
+fn every_cut_that_does_not_lie_within_its_words_is_refusal_9() {
     let mut random = Random::default();
     for mask in masks(&mut random) {
         for length in [0, 1, 2, 5, 64] {
@@ -70,7 +70,7 @@ fn every_cut_that_does_not_lie_within_its_strip_is_refusal_9() {
 }
 
 #[test]
-fn cuts_of_the_longest_strips() {
+fn cuts_of_the_longest_lists() {
     let mut random = Random::default();
     let mask = mask_of(&mut random, 12);
     for length in [LONGEST - 1, LONGEST, LONGEST + 1] {
@@ -84,7 +84,7 @@ fn cuts_of_the_longest_strips() {
 
 /// Even where there is nothing to read or to write.
 #[test]
-fn either_strip_above_2048_words_is_refusal_9() {
+fn either_list_above_2048_words_is_refusal_9() {
     let mut random = Random::default();
     let lengths = [0, 1, LONGEST - 1, LONGEST];
     let long = [LONGEST + 1, 2 * LONGEST, 1 << 16, (1 << 16) + 5];
@@ -100,7 +100,7 @@ fn either_strip_above_2048_words_is_refusal_9() {
 }
 
 #[test]
-fn each_other_strip_is_refusal_10_exactly_if_too_short() {
+fn each_other_list_is_refusal_10_exactly_if_too_short() {
     let mut random = Random::default();
     for mask in masks(&mut random) {
         for b in 0..=12 {
@@ -113,13 +113,13 @@ fn each_other_strip_is_refusal_10_exactly_if_too_short() {
     }
 }
 
-/// The memory after a short strip would complete it.
+/// The memory after a short list would complete it.
 #[test]
-fn short_parts_of_the_other_strip_are_refusal_10() {
+fn short_parts_of_the_other_list_are_refusal_10() {
     let mut random = Random::default();
     for count in 1..=64 {
         let mask = mask_of(&mut random, count);
-        let (words, mut other) = PACK.strips(&mut random, 64, 64);
+        let (words, mut other) = PACK.lists(&mut random, 64, 64);
         for short in 0..words_needed(mask, 0, 64) {
             PACK.assert_number(10, mask, &words, (0, 64), &mut other[..short]);
             UNPACK.assert_number(10, mask, &words[..short], (0, 64), &mut other);
@@ -130,19 +130,19 @@ fn short_parts_of_the_other_strip_are_refusal_10() {
 /// The table's own examples: "a = 3, b = 2", and "case 11 with 1 word".
 #[test]
 fn examples_of_the_table_of_refusals() {
-    for call in STRIP_CALLS {
-        call.assert_number(9, 0xFFF, &CASE_11, (3, 2), &mut [7; 6]);
+    for call in PACKING_CALLS {
+        call.assert_number(9, 0xFFF, &ROW_11, (3, 2), &mut [7; 6]);
     }
-    PACK.assert_number(10, 0xFFF, &CASE_11, (0, 6), &mut [7; 1]);
+    PACK.assert_number(10, 0xFFF, &ROW_11, (0, 6), &mut [7; 1]);
 }
 
 /// 9 with 10.
 #[test]
 fn the_lowest_number_wins() {
-    PACK.assert_number(9, 0xFFF, &CASE_11, (0, 7), &mut [7; 1]);
-    PACK.assert_number(9, 0xFFF, &CASE_11, (6, 0), &mut []);
+    PACK.assert_number(9, 0xFFF, &ROW_11, (0, 7), &mut [7; 1]);
+    PACK.assert_number(9, 0xFFF, &ROW_11, (6, 0), &mut []);
     PACK.assert_number(9, 0xFFF, &[1; LONGEST + 1], (0, 6), &mut [7; 1]);
-    for call in STRIP_CALLS {
+    for call in PACKING_CALLS {
         call.assert_number(9, u64::MAX, &[], (0, usize::MAX), &mut []);
         call.assert_number(9, u64::MAX, &[], (usize::MAX, 0), &mut []);
         call.assert_number(0, u64::MAX, &[], (0, 0), &mut []);

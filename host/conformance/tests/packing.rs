@@ -1,8 +1,8 @@
 //! Library, wrapper and model agree on packing.
 
 use conformance::low_ones;
-use conformance::samples::{for_each, mask_of, strip, Random};
-use conformance::strips::{words_needed, COUNTS, LONGEST, STRIP_CALLS};
+use conformance::packing::{words_needed, COUNTS, LONGEST, PACKING_CALLS};
+use conformance::samples::{for_each, mask_of, random_words, Random};
 
 /// For each count of marked bits, the rightmost ones, the leftmost, and any.
 fn masks(random: &mut Random) -> Vec<u64> {
@@ -18,17 +18,17 @@ fn pairs(most: usize) -> impl Iterator<Item = (usize, usize)> {
     (0..=most).flat_map(move |one| (0..=most).map(move |other| (one, other)))
 }
 
-/// Checks both calls on strips of these lengths: all ones over zeros, zeros
-/// over ones, and random words over random words.
+/// Checks both calls on lists of these lengths: all ones over zeros, zeros over
+/// ones, and random words over random words.
 fn check_fillings(random: &mut Random, mask: u64, lengths: (usize, usize), cut: (usize, usize)) {
     let ((first, second), (a, b)) = (lengths, cut);
     let fillings = [
         (vec![u64::MAX; first], vec![0; second]),
         (vec![0; first], vec![u64::MAX; second]),
-        (strip(random, first), strip(random, second)),
+        (random_words(random, first), random_words(random, second)),
     ];
     for (first, second) in fillings {
-        for call in STRIP_CALLS {
+        for call in PACKING_CALLS {
             call.check(mask, &first, a, b, &mut second.clone());
         }
     }
@@ -46,21 +46,21 @@ fn every_small_length_and_cut() {
     }
 }
 
-/// Checks both calls on a strip of this length, the other one being as long as
+/// Checks both calls on a list of this length, the other one being as long as
 /// the bits need, one word shorter or longer, or as long as may be.
 fn check_others(random: &mut Random, mask: u64, length: usize, (a, b): (usize, usize)) {
     let exact = words_needed(mask, a, b);
     let others = [exact, (exact + 1).min(LONGEST), LONGEST].map(|other| (other, 0));
     let one_short = exact.checked_sub(1).map(|other| (other, 10));
     for (other, number) in others.into_iter().chain(one_short) {
-        for call in STRIP_CALLS {
-            let (first, mut second) = call.strips(random, length, other);
+        for call in PACKING_CALLS {
+            let (first, mut second) = call.lists(random, length, other);
             call.assert_number(number, mask, &first, (a, b), &mut second);
         }
     }
 }
 
-/// Cuts of a strip of this length: at both ends, at one, at none, and nothing.
+/// Cuts of a list of this length: at both ends, at one, at none, and nothing.
 fn cuts(random: &mut Random, length: usize) -> [(usize, usize); 6] {
     let mut below = || random.below(length as u32 + 1) as usize;
     let (one, other) = (below(), below());
@@ -87,7 +87,7 @@ fn random_masks_lengths_and_cuts() {
 }
 
 #[test]
-fn the_longest_strips_by_every_count_of_marked_bits() {
+fn the_longest_lists_by_every_count_of_marked_bits() {
     let mut random = Random::default();
     for count in COUNTS {
         let mask = mask_of(&mut random, count);

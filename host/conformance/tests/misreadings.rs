@@ -1,5 +1,6 @@
-//! Paper 01's "False splices": the library makes none of them, and each would
-//! be seen. Group by a shift of 64 is among the laws and is row 13.
+//! The misreadings that paper 01 warns of ("False splices"): the library has none
+//! of them, and each would be seen. Group by a shift of 64 is among the laws and
+//! is row 13.
 
 use conformance::call::{decode, BUTTERFLY, GATHER, INVERSE, NETWORKS, SCATTER};
 use conformance::controls::{pass_all, reversed, stages, Controls};
@@ -26,8 +27,8 @@ fn the_last_stage_counts_place_0() {
         let controls = decode(8, mask).butterfly;
         assert!(scatters(mask, controls));
         let [stage_1, stage_2, stage_3, ..] = controls;
-        let spliced = [stage_1, stage_2, stage_3 & !1, 0, 0, 0];
-        assert_eq!(scatters(mask, spliced), mask & 1 == 0);
+        let misread = [stage_1, stage_2, stage_3 & !1, 0, 0, 0];
+        assert_eq!(scatters(mask, misread), mask & 1 == 0);
     }
     for width in WIDTHS {
         for_each(width, 10, |mask, _| {
@@ -49,11 +50,11 @@ fn locally_counted(mask: u64) -> Controls {
 #[test]
 fn ones_are_counted_from_bit_0() {
     let controls = decode(8, 0xAD).butterfly;
-    let spliced = locally_counted(0xAD);
+    let misread = locally_counted(0xAD);
     assert_eq!(controls, [0b0111, 0b0001, 0b0101, 0, 0, 0]);
-    assert_eq!(spliced, [0b0111, 0b0101, 0b0011, 0, 0, 0]);
+    assert_eq!(misread, [0b0111, 0b0101, 0b0011, 0, 0, 0]);
     assert!(scatters(0xAD, controls));
-    assert!(!scatters(0xAD, spliced));
+    assert!(!scatters(0xAD, misread));
 }
 
 /// "Reading settings of zero as pass. A fresh unit's kind 1 reverses the word."

@@ -2,33 +2,33 @@
 
 use crate::call::assert_agree;
 use crate::guards::{lent, only_read};
-use crate::samples::{strip, Random};
+use crate::samples::{random_words, Random};
 use model::refusal::Answer;
 use tigbayon::{Refusal, TbPacked};
 
-/// The most words of a strip.
+/// The most words of a list.
 pub const LONGEST: usize = 2_048;
 
 /// Counts of marked bits to try: none, all, and those around a half and a whole
 /// word.
 pub const COUNTS: [u32; 8] = [0, 1, 12, 31, 32, 33, 63, 64];
 
-type OfStrips<A> = fn(u64, &[u64], usize, usize, &mut [u64]) -> A;
+type OfWords<A> = fn(u64, &[u64], usize, usize, &mut [u64]) -> A;
 
-/// A call of a mask, a first strip, numbers a and b, and a second strip, which
-/// is lent: as the archive exports it, as the wrapper offers it, and as the
-/// model defines it.
-pub struct StripCall {
+/// A call of a mask, a first list of words, numbers a and b, and a second list,
+/// which is lent: as the archive exports it, as the wrapper offers it, and as
+/// the model defines it.
+pub struct PackingCall {
     /// The call's name.
     pub name: &'static str,
     cuts_first: bool,
-    raw: OfStrips<Answer<u64>>,
-    wrapped: OfStrips<Result<u64, Refusal>>,
-    model: OfStrips<Answer<u64>>,
+    raw: OfWords<Answer<u64>>,
+    wrapped: OfWords<Result<u64, Refusal>>,
+    model: OfWords<Answer<u64>>,
 }
 
 /// Pack.
-pub const PACK: StripCall = StripCall {
+pub const PACK: PackingCall = PackingCall {
     name: "pack",
     cuts_first: true,
     raw: |mask, words, a, b, out| packed(tigbayon::tb_pack(mask, words, a, b, out)),
@@ -37,7 +37,7 @@ pub const PACK: StripCall = StripCall {
 };
 
 /// Unpack.
-pub const UNPACK: StripCall = StripCall {
+pub const UNPACK: PackingCall = PackingCall {
     name: "unpack",
     cuts_first: false,
     raw: |mask, words, a, b, out| packed(tigbayon::tb_unpack(mask, words, a, b, out)),
@@ -45,13 +45,13 @@ pub const UNPACK: StripCall = StripCall {
     model: model::packing::unpack,
 };
 
-/// Both calls on strips.
-pub const STRIP_CALLS: [StripCall; 2] = [PACK, UNPACK];
+/// Both of them.
+pub const PACKING_CALLS: [PackingCall; 2] = [PACK, UNPACK];
 
-impl StripCall {
+impl PackingCall {
     /// Makes the call all three ways, panics unless they agree in every part
-    /// of the answer and in every word of the second strip, hands the answer
-    /// back and leaves the strip so.
+    /// of the answer and in every word of the second list, hands the answer
+    /// back and leaves the words so.
     pub fn check(
         &self,
         mask: u64,
@@ -100,11 +100,11 @@ impl StripCall {
         }
     }
 
-    /// Random strips, first and second, of these lengths: of the one that a and
-    /// b cut, and of the other.
-    pub fn strips(&self, random: &mut Random, cut: usize, other: usize) -> (Vec<u64>, Vec<u64>) {
-        let cut = strip(random, cut);
-        let other = strip(random, other);
+    /// Random words, a first and a second list, of these lengths: of the one
+    /// that a and b cut, and of the other.
+    pub fn lists(&self, random: &mut Random, cut: usize, other: usize) -> (Vec<u64>, Vec<u64>) {
+        let cut = random_words(random, cut);
+        let other = random_words(random, other);
         if self.cuts_first {
             (cut, other)
         } else {

@@ -1,8 +1,8 @@
-//! What paper 01's "Strips" says, asked of the library.
+//! What paper 01 says of packed words ("Strips"), asked of the library.
 
 use conformance::low_ones;
-use conformance::samples::{for_each, strip, Random};
-use conformance::strips::{bits, words_needed};
+use conformance::packing::{bits, words_needed};
+use conformance::samples::{for_each, random_words, Random};
 use std::iter::zip;
 use tigbayon::{gather, pack, scatter, unpack, Refusal};
 
@@ -16,7 +16,7 @@ fn holds(law: impl Fn(&mut Random, u64, &[u64], usize, usize) -> Outcome) {
         let length = random.below(100);
         let b = random.below(length + 1);
         let a = random.below(b + 1) as usize;
-        let words = strip(&mut random, length as usize);
+        let words = random_words(&mut random, length as usize);
         law(&mut random, mask, &words, a, b as usize).expect("not refused");
     });
 }
@@ -32,7 +32,7 @@ fn packed(mask: u64, words: &[u64], a: usize, b: usize) -> Result<Vec<u64>, Refu
 fn unpack_after_pack_zeroes_the_unmarked_bits() {
     holds(|random, mask, words, a, b| {
         let packed = packed(mask, words, a, b)?;
-        let before = strip(random, words.len());
+        let before = random_words(random, words.len());
         let mut out = before.clone();
         assert_eq!(unpack(mask, &packed, a..b, &mut out)?, bits(mask, a, b));
         for (out, word) in zip(&out[a..b], &words[a..b]) {
@@ -66,7 +66,7 @@ fn pack_writes_no_more_than_its_bits_and_spare_zeros() {
     holds(|random, mask, words, a, b| {
         let packed = packed(mask, words, a, b)?;
         let used = packed.len();
-        let before = strip(random, used + 3);
+        let before = random_words(random, used + 3);
         let mut out = before.clone();
         pack(mask, words, a..b, &mut out)?;
         assert_eq!(out[..used], packed);
@@ -90,7 +90,7 @@ fn unpack_does_not_look_at_spare_bits_or_at_words_after_them() {
         if let Some(last) = packed.last_mut().filter(|_| in_last != 0) {
             *last |= random.word() & !low_ones(in_last as u32);
         }
-        packed.extend(strip(random, 2));
+        packed.extend(random_words(random, 2));
         let mut out = words.to_vec();
         unpack(mask, &packed, a..b, &mut out)?;
         assert_eq!(out, expected);
@@ -132,7 +132,7 @@ fn no_marked_bits() {
 fn all_bits_marked_copies_the_words() {
     holds(|random, _, words, a, b| {
         assert_eq!(packed(u64::MAX, words, a, b)?, words[a..b]);
-        let mut out = strip(random, words.len());
+        let mut out = random_words(random, words.len());
         unpack(u64::MAX, &words[a..b], a..b, &mut out)?;
         assert_eq!(out[a..b], words[a..b]);
         Ok(())
