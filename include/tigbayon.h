@@ -157,7 +157,7 @@ TbPrepared tb_prepare_inverse(uint32_t width, const uint32_t stages[6]);
  * Butterfly, prepared: the word sent through the stages of swaps[0] to swaps[5].
  * On the swaps that tb_prepare_butterfly answers, the result is that of
  * tb_butterfly for each word of the width. Of any other word the bits below w go
- * likewise, and the others stay at bit w and above.
+ * likewise.
  *
  * Nothing is refused: on any six words, at each distance d the word x becomes
  * x ^ t ^ (t << d), where t is (x ^ (x >> d)) & swaps[i].
