@@ -19,7 +19,7 @@ use Rattle.permute.specs.Permutation.{namesOnce}
 use Rattle.permute.specs.Calls.{routeRefusal, oneConditions, oneRefusal, oneAnswer, ControlsAlone, AnswersAlone, DecidesAlone}
 use Rattle.permute.proofs.PermutationAnswers.{route-refusal-by, route-permutes, one-refusal, one-number}
 use Rattle.permute.proofs.OneNetwork.{butterfly-alone, inverse-alone}
-use Rattle.permute.proofs.Demand3.{in-use}
+use Rattle.permute.proofs.FirstWords.{in-use}
 
 -- a call refused on both networks is not refused by 6
 route-not-6 : (w : ℕ) (es : List ℕ) → routeRefusal w es ≡ 6 → ⊥

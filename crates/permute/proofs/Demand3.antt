@@ -2,10 +2,9 @@
 use mathlib.Core.Path.{_≡_, refl, sym, _∙_, ap, ap₂, subst}
 use mathlib.Core.Bool.{true}
 use mathlib.Core.List.{List}
-use Prim.Native.Nat.{ℕ, _-_, _^_, _<_}
+use Prim.Native.Nat.{ℕ, _^_, _<_}
 use native.Mathlib.Omega.{arith}
-use lib.ListN.{length, take, replicate}
-use lib.Seq.{take-at}
+use lib.ListN.{length}
 use borrow.Author.Tests.{eq-eqb, lt-ltb}
 use Rattle.bits.specs.Bit.{pick}
 use Rattle.bits.specs.Refusal.{logOf, accepted}
@@ -14,7 +13,7 @@ use Rattle.gather.specs.declared.Gathered.{Gathered}
 use Rattle.gather.specs.Gather.{gatherOf, scatterOf, refusalOf, answerOf}
 use Rattle.gather.proofs.MaskAnswers.{refusal-by, carried-out}
 use Rattle.network.specs.Stage.{butterflyOf, inverseOf}
-use Rattle.network.specs.Calls.{six, controls, networkAnswer, decodeAnswer}
+use Rattle.network.specs.Calls.{controls, networkAnswer, decodeAnswer}
 use Rattle.network.specs.declared.Carried.{Carried}
 use Rattle.network.proofs.MaskRouting.{mask-routing-scatter, mask-routing-gather, butterfly-lt}
 use Rattle.network.proofs.NetworkAnswers.{decode-refusal-by}
@@ -25,6 +24,7 @@ use Rattle.permute.specs.Permutation.{namesOnce}
 use Rattle.permute.specs.First.{First}
 use Rattle.permute.specs.Calls.{routeAnswer, stagesIn}
 use Rattle.permute.specs.Demand3.{Demand3, Demand3Calls}
+use Rattle.permute.proofs.FirstWords.{in-use}
 use Rattle.permute.proofs.Order.{first-controls}
 use Rattle.permute.proofs.Names.{names-permutes}
 use Rattle.permute.proofs.PermutationAnswers.{route-refusal-by}
@@ -36,10 +36,6 @@ demand-3 L =
       gathers = λ m x h l. mask-routing-gather L m x h;
       routes = λ es p. first-controls L es p;
     }
-
--- the stages in use of six
-pub in-use : (L : ℕ) (cs : List ℕ) → length cs ≡ L → take L (six cs) ≡ cs
-in-use L cs e = take-at cs (replicate (6 - length cs) 0) L e
 
 module _ (w : ℕ) (a : accepted w ≡ true) where
   width : w ≡ 2 ^ logOf w

@@ -1,6 +1,7 @@
 -- The refusals of the calls on permutations: by the tests that the code makes, lowest first (demand 1), and what a call that is carried out is on.
 -- Assumes nothing.
 use mathlib.Core.Path.{_≡_, refl, sym, _∙_, ap}
+use mathlib.Core.Logic.{inl, inr}
 use mathlib.Core.Bool.{Bool, true, false, not, cond}
 use mathlib.Core.List.{List, [], _∷_, _++_}
 use Prim.Native.Nat.{ℕ, _^_, _≤_}
@@ -8,8 +9,8 @@ use native.Mathlib.Omega.{arith}
 use lib.Dec.{eqb}
 use lib.ListN.{length}
 use borrow.Author.Tests.{ne-eqb, eqb-true, not-false}
-use Rattle.bits.specs.Refusal.{logOf, accepted, lowest, Rising, AnswersLowest}
-use Rattle.bits.proofs.Refusals.{log-width, log-le, answers-lowest, none-applies}
+use Rattle.bits.specs.Refusal.{logOf, accepted, lowest, Rising, IsLowest, AnswersLowest}
+use Rattle.bits.proofs.Refusals.{log-width, log-le, lowest-law, answers-lowest, none-applies}
 use Rattle.network.specs.Calls.{controls}
 use Rattle.routing.specs.Lists.{ListPermutes, firstWords}
 use Rattle.permute.specs.declared.Routed.{Routed}
@@ -18,14 +19,12 @@ use Rattle.permute.specs.Permutation.{namesOnce}
 use Rattle.permute.specs.Calls.{routeConditions, routeRefusal, routeAnswer, oneConditions, oneRefusal, oneAnswer}
 use Rattle.permute.proofs.Names.{names-permutes}
 
--- an answer by the refusal n holds that number
-number-is : {A : Type 0} (number : A → ℕ) (done : A) (refused : ℕ → A) → number done ≡ 0 → ((n : ℕ) → number (refused n) ≡ n)
-    → (n : ℕ) → number (cond (eqb n 0) done (refused n)) ≡ n
-number-is number done refused d e n = by (eqb n 0) (eqb-true n 0)
-  where
-    by : (b : Bool) → (b ≡ true → n ≡ 0) → number (cond b done (refused n)) ≡ n
-    by true f = d ∙ sym (f refl)
-    by false f = e n
+-- demand 1 leaves one number
+lowest-only : (cs : List (ℕ × Bool)) (r s : ℕ) → IsLowest cs r → IsLowest cs s → r ≡ s
+lowest-only cs r s (inl a) (inl b) = a .0 ∙ sym (b .0)
+lowest-only cs r s (inl a) (inr b) = absurd (a .1 s (b .0))
+lowest-only cs r s (inr a) (inl b) = absurd (b .1 r (a .0))
+lowest-only cs r s (inr a) (inr b) = omega (arith, a .1 s (b .0), b .1 r (a .0))
 
 -- conditions after others count only if none of those holds
 lowest-more : (b : ℕ) (cs ds : List (ℕ × Bool)) → Rising b cs → lowest (cs ++ ds) ≡ cond (eqb (lowest cs) 0) (lowest ds) (lowest cs)
@@ -69,11 +68,8 @@ module _ (w : ℕ) (es : List ℕ) where
       (record { refusal = 0; butterfly = controls (k .butterfly); inverse = controls (k .inverse) }) refl (λ n. refl)
 
   pub route-number : routeAnswer w es .refusal ≡ routeRefusal w es
-  unfolding routeAnswer
-  route-number =
-      let k = firstWords (logOf w) es in
-      number-is (λ (a : Routed). a .refusal) (record { refusal = 0; butterfly = controls (k .butterfly); inverse = controls (k .inverse) })
-      (λ n. record { refusal = n; butterfly = controls []; inverse = controls [] }) refl (λ n. refl) (routeRefusal w es)
+  unfolding routeRefusal
+  route-number = lowest-only (routeConditions w es) (routeAnswer w es .refusal) _ (route-lowest .least) (lowest-law (routeConditions w es) (omega arith))
 
   -- one network alone
   module _ (fits : ℕ → List ℕ → Bool) where
@@ -91,7 +87,6 @@ module _ (w : ℕ) (es : List ℕ) where
           (record { refusal = 0; controls = controls (alone (logOf w) es) }) refl (λ n. refl)
 
       pub one-number : oneAnswer fits alone w es .refusal ≡ oneRefusal fits w es
-      unfolding oneAnswer
+      unfolding oneRefusal
       one-number =
-          number-is (λ (a : RoutedOne). a .refusal) (record { refusal = 0; controls = controls (alone (logOf w) es) })
-          (λ n. record { refusal = n; controls = controls [] }) refl (λ n. refl) (oneRefusal fits w es)
+          lowest-only (oneConditions fits w es) (oneAnswer fits alone w es .refusal) _ (alone-lowest .least) (lowest-law (oneConditions fits w es) (omega arith))

@@ -17,8 +17,6 @@ use Rattle.routing.specs.Lists.{Words, entry, butterflyFrom, inverseFrom, fromW
 use Rattle.permute.specs.Permutation.{Realises}
 use Rattle.permute.proofs.Sources.{butterfly-from, inverse-from}
 
--- a network of places, and the permuted word
-
 -- If the bit of every place p comes from place f p, then every word comes out permuted exactly if f is the permutation.
 module _ (L : ℕ) (entries : List ℕ) (long : length entries ≡ 2 ^ L) (F : ℕ → ℕ) (f : ℕ → ℕ)
     (moves : (x p : ℕ) → x < 2 ^ 2 ^ L → p < 2 ^ L → bit (F x) p ≡ bit x (f p)) (keeps : (x : ℕ) → x < 2 ^ 2 ^ L → F x < 2 ^ 2 ^ L)

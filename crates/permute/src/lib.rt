@@ -86,7 +86,7 @@ pub fn route(width: u32, entries: &[u8]) -> Routed
     }
 }
 
-// The controls of the butterfly alone that realise the permutation.
+// The controls of the butterfly alone that realise the permutation, or refusal 6 exactly if there are none.
 pub fn route_butterfly(width: u32, entries: &[u8]) -> RoutedOne
     ensures { λ r. ⌜ r ≡ oneAnswer butterflyFits butterflyAlone width (now (entries .entry)) ⌝ }
     ensures alone { λ r. ⌜ AnswersAlone butterflyOf width (now (entries .entry)) r ⌝ }
@@ -94,7 +94,7 @@ pub fn route_butterfly(width: u32, entries: &[u8]) -> RoutedOne
     route_one(false, width, entries)
 }
 
-// The controls of the inverse alone that realise the permutation.
+// The same of the inverse alone.
 pub fn route_inverse(width: u32, entries: &[u8]) -> RoutedOne
     ensures { λ r. ⌜ r ≡ oneAnswer inverseFits inverseAlone width (now (entries .entry)) ⌝ }
     ensures alone { λ r. ⌜ AnswersAlone inverseOf width (now (entries .entry)) r ⌝ }
