@@ -72,7 +72,7 @@ seen-none : Seen 0 []
 unfolding Seen absent
 seen-none x h = sym (eq-eqb (bit 0 x) 0 (bit-of-zero x))
 
-pub seen-more : (seen e : ℕ) (ys : List ℕ) → e < 64 → Seen seen ys → Seen (bitOr seen (1 * 2 ^ e % 2 ^ 64)) (e ∷ ys)
+seen-more : (seen e : ℕ) (ys : List ℕ) → e < 64 → Seen seen ys → Seen (bitOr seen (1 * 2 ^ e % 2 ^ 64)) (e ∷ ys)
 unfolding Seen absent
 seen-more seen e ys h s x l =
     by-cases (ℕ-discrete x e)
