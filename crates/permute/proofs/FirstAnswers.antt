@@ -1,36 +1,21 @@
--- What `route` answers, and that it is the first. Assumes nothing.
-use mathlib.Core.Path.{_≡_, refl, sym, _∙_, ap, ap₂, subst}
-use mathlib.Core.Bool.{Bool, true, false, cond}
+-- What `route` answers, by the code's steps, and that it is the first controls. Assumes nothing.
+use mathlib.Core.Path.{_≡_, sym, _∙_, ap, ap₂, subst}
 use mathlib.Core.List.{List, []}
 use Prim.Native.Nat.{ℕ}
-use lib.Dec.{eqb}
-use borrow.Author.Tests.{eq-eqb, ne-eqb, eqb-true}
+use borrow.Author.Tests.{eq-eqb, ne-eqb}
 use Rattle.bits.specs.Refusal.{logOf}
 use Rattle.network.specs.Calls.{six, controls}
 use Rattle.routing.specs.Lists.{firstWords}
 use Rattle.permute.specs.declared.Routed.{Routed}
 use Rattle.permute.specs.Calls.{routeRefusal, routeAnswer, AnswersFirst}
-use Rattle.permute.proofs.PermutationAnswers.{route-within}
+use Rattle.permute.proofs.PermutationAnswers.{route-within, route-number}
 use Rattle.permute.proofs.Demand3.{demand-3-calls}
 
 module _ (w : ℕ) (es : List ℕ) where
-  -- an answer with no refusal comes of a call that is not refused
-  carried : routeAnswer w es .refusal ≡ 0 → routeRefusal w es ≡ 0
-  unfolding routeAnswer
-  carried =
-      let k = firstWords (logOf w) es in
-      by (eqb (routeRefusal w es) 0) (record { refusal = 0; butterfly = controls (k .butterfly); inverse = controls (k .inverse) })
-      (eqb-true (routeRefusal w es) 0)
-    where
-      by : (b : Bool) (x : Routed) → (b ≡ true → routeRefusal w es ≡ 0)
-          → _≡_ {A = ℕ} (cond b x (record { refusal = routeRefusal w es; butterfly = controls []; inverse = controls [] }) .refusal) 0 → routeRefusal w es ≡ 0
-      by true x f e = f refl
-      by false x f e = e
-
   pub answers-first : {r : Routed} → r ≡ routeAnswer w es → AnswersFirst w es r
   answers-first e =
       subst (AnswersFirst w es) (sym e)
-      (λ z. let i = route-within w es (carried z) in demand-3-calls w (i .0) .routes es (i .1) (i .2))
+      (λ z. let i = route-within w es (sym (route-number w es) ∙ z) in demand-3-calls w (i .0) .routes es (i .1) (i .2) .1)
 
   module _ {n : ℕ} (e : n ≡ routeRefusal w es) where
     pub route-refused : (n ≡ 0 → ⊥) → _≡_ {A = Routed} (record { refusal = n; butterfly = controls []; inverse = controls [] }) (routeAnswer w es)

@@ -1,21 +1,20 @@
--- The first controls of crate routing, as words: they are the first controls in the sense of demand 3. Assumes nothing.
+-- Stages as words: where they stand in the direction of travel and among six, and that they are the words of their switches. Assumes nothing.
 use mathlib.Core.Path.{_≡_, refl, sym, _∙_, ap}
 use mathlib.Core.Logic.{_⊎_, inl, inr}
-use mathlib.Core.Bool.{Bool, true, false, cond, true≢false}
+use mathlib.Core.Bool.{Bool, cond}
 use mathlib.Core.List.{List}
-use Prim.Native.Nat.{ℕ, zero, suc, _+_, _-_, _/_, _%_, _^_, _<_}
+use Prim.Native.Nat.{ℕ, suc, _+_, _-_, _/_, _^_, _<_}
 use native.Mathlib.Omega.{arith}
-use lib.ListN.{length, getD, List·getD-append}
-use lib.Seq.{ext-getD, getD-append-add}
-use borrow.Author.Tests.{eqb-true, eq-eqb, ne-eqb}
+use lib.Dec.{eqb}
+use lib.ListN.{length, getD, take, replicate, List·getD-append}
+use lib.Seq.{ext-getD, getD-append-add, take-at}
 use Rattle.bits.specs.Bit.{bit}
 use Rattle.bits.proofs.Word.{bit-cases, ext}
-use Rattle.routing.specs.Loop.{pass, swap}
 use Rattle.routing.specs.Stages.{Butterfly, Inverse}
 use Rattle.routing.specs.Stages as place
 use Rattle.routing.specs.Lists.{Words, wordOf, controlIn, butterflyWords, inverseWords, butterflyFrom, inverseFrom, wordsOf, fromWords}
 use Rattle.routing.proofs.StageWords.{word-small, word-bit, length-butterfly, length-inverse, butterfly-word, inverse-word}
-use Rattle.network.specs.Calls.{Uses}
+use Rattle.network.specs.Calls.{Uses, six}
 use Rattle.permute.specs.First.{travelled, UsesBoth}
 
 -- where the words stand in the direction of travel
@@ -27,92 +26,64 @@ module _ (L : ℕ) (k : Words) (b : length (k .butterfly) ≡ L) where
   travelled-inverse i =
       ap (λ (n : ℕ). getD (travelled k) (n + i) 0) (sym b) ∙ getD-append-add (k .butterfly) (k .inverse) i 0
 
-pub butterfly-used : (L : ℕ) (c : ℕ → ℕ → Bool) → Uses L (butterflyWords (2 ^ L / 2) L c)
-butterfly-used L c = (length-butterfly (2 ^ L / 2) L c, small)
-  where
-    small : (i : ℕ) → i < L → getD (butterflyWords (2 ^ L / 2) L c) i 0 < 2 ^ (2 ^ L / 2)
-    small i l =
-        let e : i + suc (L - suc i) ≡ L = omega arith in
-        rw (butterfly-word (2 ^ L / 2) L c i (L - suc i) e) (word-small (2 ^ L / 2) (c (L - suc i)))
+-- the stages in use of six
+pub in-use : (L : ℕ) (cs : List ℕ) → length cs ≡ L → take L (six cs) ≡ cs
+in-use L cs e = take-at cs (replicate (6 - length cs) 0) L e
 
-pub inverse-used : (L : ℕ) (c : ℕ → ℕ → Bool) → Uses L (inverseWords (2 ^ L / 2) 0 L c)
-inverse-used L c = (
-  length-inverse (2 ^ L / 2) 0 L c,
-  λ i l. rw (inverse-word (2 ^ L / 2) 0 L c i i (omega arith) l) (word-small (2 ^ L / 2) (c i)),
-)
-
-pub words-used : (L : ℕ) (C : place.StageControls) → UsesBoth L (wordsOf L C)
-unfolding wordsOf
-words-used L C = (butterfly-used L (λ e. C (Butterfly e)), inverse-used L (λ e. C (Inverse e)))
-
--- switch s of a word swaps exactly if its bit is zero
-
-control-zero : (x s : ℕ) → bit x s ≡ 0 → controlIn x s ≡ swap
+-- bit s of a word is zero exactly if switch s swaps
+pub control-bit : (x s : ℕ) {c : Bool} → controlIn x s ≡ c → bit x s ≡ cond c 0 1
 unfolding controlIn bit
-control-zero x s e = eq-eqb (x / 2 ^ s % 2) 0 e
-
-control-one : (x s : ℕ) → bit x s ≡ 1 → controlIn x s ≡ pass
-unfolding controlIn bit
-control-one x s e = ne-eqb (x / 2 ^ s % 2) 0 (λ z. omega arith)
-
-pub zero-control : (x s : ℕ) → controlIn x s ≡ swap → bit x s ≡ 0
-unfolding controlIn bit
-zero-control x s e = eqb-true (x / 2 ^ s % 2) 0 e
-
-pub one-control : (x s : ℕ) → controlIn x s ≡ pass → bit x s ≡ 1
-one-control x s e = by-cases (bit-cases x s)
+control-bit x s e = by-cases (bit-cases x s) ∙ ap (λ (b : Bool). cond b 0 1) e
   where
-    by-cases : (bit x s ≡ 0) ⊎ (bit x s ≡ 1) → bit x s ≡ 1
-    by-cases (inl z) = absurd (true≢false (sym (control-zero x s z) ∙ e))
-    by-cases (inr o) = o
-
-pub same-control : (x y s : ℕ) → controlIn x s ≡ controlIn y s → bit x s ≡ bit y s
-same-control x y s e = by-cases (bit-cases x s)
-  where
-    by-cases : (bit x s ≡ 0) ⊎ (bit x s ≡ 1) → bit x s ≡ bit y s
-    by-cases (inl z) = z ∙ sym (zero-control y s (sym e ∙ control-zero x s z))
-    by-cases (inr o) = o ∙ sym (one-control y s (sym e ∙ control-one x s o))
+    by-cases : (bit x s ≡ 0) ⊎ (bit x s ≡ 1) → bit x s ≡ cond (eqb (bit x s) 0) 0 1
+    by-cases (inl z) = rw z
+    by-cases (inr o) = rw o
 
 -- a word is the word of its switches
 word-back : (w : ℕ) {x : ℕ} → x < 2 ^ w → wordOf w (controlIn x) ≡ x
-word-back w {x} h = ext w (word-small w (controlIn x)) h (λ s l. at s l (bit-cases x s))
-  where
-    word-digit : (s : ℕ) → s < w → bit (wordOf w (controlIn x)) s ≡ cond (controlIn x s) 0 1
-    word-digit s l = unfold bit in word-bit w (controlIn x) s l
+unfolding bit
+word-back w {x} h = ext w (word-small w (controlIn x)) h (λ s l. word-bit w (controlIn x) s l ∙ sym (control-bit x s refl))
 
-    at : (s : ℕ) → s < w → (bit x s ≡ 0) ⊎ (bit x s ≡ 1) → bit (wordOf w (controlIn x)) s ≡ bit x s
-    at s l (inl z) = word-digit s l ∙ ap (λ (b : Bool). cond b 0 1) (control-zero x s z) ∙ sym z
-    at s l (inr o) = word-digit s l ∙ ap (λ (b : Bool). cond b 0 1) (control-one x s o) ∙ sym o
+-- Words of L stages, stage i in the direction of travel with the controls c i: used only where they may be, and such words are those of their switches.
+module _ (L : ℕ) (c : ℕ → ℕ → Bool) (words : List ℕ) (long : length words ≡ L) (are : (i : ℕ) → i < L → getD words i 0 ≡ wordOf (2 ^ L / 2) (c i)) where
+  used : Uses L words
+  used = (long, λ i l. rw (are i l) (word-small (2 ^ L / 2) (c i)))
 
--- controls that are used only where they may be are the words of their switches
+  back : (cs : List ℕ) → Uses L cs → ((i : ℕ) → i < L → c i ≡ controlIn (getD cs i 0)) → words ≡ cs
+  back cs u same =
+      ext-getD 0 words cs (long ∙ sym (u .0))
+      (λ i h. let l : i < L = omega arith in are i l ∙ ap (wordOf (2 ^ L / 2)) (same i l) ∙ word-back (2 ^ L / 2) (u .1 i l))
+
+module _ (L : ℕ) (c : ℕ → ℕ → Bool) where
+  falls : (i : ℕ) → i < L → getD (butterflyWords (2 ^ L / 2) L c) i 0 ≡ wordOf (2 ^ L / 2) (c (L - suc i))
+  falls i l = butterfly-word (2 ^ L / 2) L c i (L - suc i) (omega arith)
+
+  rises : (i : ℕ) → i < L → getD (inverseWords (2 ^ L / 2) 0 L c) i 0 ≡ wordOf (2 ^ L / 2) (c i)
+  rises i l = inverse-word (2 ^ L / 2) 0 L c i i (omega arith) l
+
+  pub butterfly-used : Uses L (butterflyWords (2 ^ L / 2) L c)
+  butterfly-used = used L (λ i. c (L - suc i)) (butterflyWords (2 ^ L / 2) L c) (length-butterfly (2 ^ L / 2) L c) falls
+
+  pub inverse-used : Uses L (inverseWords (2 ^ L / 2) 0 L c)
+  inverse-used = used L c (inverseWords (2 ^ L / 2) 0 L c) (length-inverse (2 ^ L / 2) 0 L c) rises
+
 module _ (L : ℕ) (cs : List ℕ) (u : Uses L cs) where
   pub butterfly-back : butterflyWords (2 ^ L / 2) L (butterflyFrom L cs) ≡ cs
   unfolding butterflyFrom
   butterfly-back =
-      let w = 2 ^ L / 2 in
-      ext-getD 0 (butterflyWords w L (butterflyFrom L cs)) cs (length-butterfly w L (butterflyFrom L cs) ∙ sym (u .0)) at
-    where
-      at : (i : ℕ) → i < length (butterflyWords (2 ^ L / 2) L (butterflyFrom L cs))
-          → getD (butterflyWords (2 ^ L / 2) L (butterflyFrom L cs)) i 0 ≡ getD cs i 0
-      at i h =
-          let l : i < L = omega (arith, length-butterfly (2 ^ L / 2) L (butterflyFrom L cs)) in
-          let e : i + suc (L - suc i) ≡ L = omega arith in
-          let n : L - suc (L - suc i) ≡ i = omega arith in
-          butterfly-word (2 ^ L / 2) L (butterflyFrom L cs) i (L - suc i) e
-          ∙ ap (λ (j : ℕ). wordOf (2 ^ L / 2) (controlIn (getD cs j 0))) n
-          ∙ word-back (2 ^ L / 2) (u .1 i l)
+      let c = butterflyFrom L cs in
+      back L (λ i. c (L - suc i)) (butterflyWords (2 ^ L / 2) L c) (length-butterfly (2 ^ L / 2) L c) (falls L c) cs u
+      (λ i l. let n : L - suc (L - suc i) ≡ i = omega arith in ap (λ (j : ℕ). controlIn (getD cs j 0)) n)
 
   pub inverse-back : inverseWords (2 ^ L / 2) 0 L (inverseFrom cs) ≡ cs
   unfolding inverseFrom
   inverse-back =
-      let w = 2 ^ L / 2 in
-      ext-getD 0 (inverseWords w 0 L (inverseFrom cs)) cs (length-inverse w 0 L (inverseFrom cs) ∙ sym (u .0)) at
-    where
-      at : (i : ℕ) → i < length (inverseWords (2 ^ L / 2) 0 L (inverseFrom cs))
-          → getD (inverseWords (2 ^ L / 2) 0 L (inverseFrom cs)) i 0 ≡ getD cs i 0
-      at i h =
-          let l : i < L = omega (arith, length-inverse (2 ^ L / 2) 0 L (inverseFrom cs)) in
-          inverse-word (2 ^ L / 2) 0 L (inverseFrom cs) i i (omega arith) l ∙ word-back (2 ^ L / 2) (u .1 i l)
+      let c = inverseFrom cs in
+      back L c (inverseWords (2 ^ L / 2) 0 L c) (length-inverse (2 ^ L / 2) 0 L c) (rises L c) cs u (λ i l. refl)
+
+pub words-used : (L : ℕ) (C : place.StageControls) → UsesBoth L (wordsOf L C)
+unfolding wordsOf
+words-used L C = (butterfly-used L (λ e. C (Butterfly e)), inverse-used L (λ e. C (Inverse e)))
 
 pub words-back : (L : ℕ) (k : Words) → UsesBoth L k → wordsOf L (fromWords L k) ≡ k
 unfolding wordsOf

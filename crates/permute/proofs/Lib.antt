@@ -7,3 +7,4 @@ pub mod Names
 pub mod PermutationAnswers
 pub mod Demand3
 pub mod FirstAnswers
+pub mod AloneAnswers

@@ -1,6 +1,5 @@
 -- The test that a list names every place once. Assumes nothing.
 use mathlib.Core.Path.{_≡_, refl, sym, _∙_, ap, ap₂}
-use mathlib.Core.Logic.{_⊎_, inl, inr}
 use mathlib.Core.Bool.{Bool, true, false, not, cond, _&&_, false≢true, true≢false}
 use mathlib.Core.List.{List, [], _∷_}
 use Prim.Native.Nat.{ℕ, zero, suc, _+_, _*_, _/_, _%_, _^_, _<_, _≤_, max}
@@ -73,7 +72,7 @@ seen-none : Seen 0 []
 unfolding Seen absent
 seen-none x h = sym (eq-eqb (bit 0 x) 0 (bit-of-zero x))
 
-pub seen-more : (seen e : ℕ) (ys : List ℕ) → e < 64 → Seen seen ys → Seen (bitOr seen (1 * 2 ^ e % 2 ^ 64)) (e ∷ ys)
+seen-more : (seen e : ℕ) (ys : List ℕ) → e < 64 → Seen seen ys → Seen (bitOr seen (1 * 2 ^ e % 2 ^ 64)) (e ∷ ys)
 unfolding Seen absent
 seen-more seen e ys h s x l =
     by-cases (ℕ-discrete x e)

@@ -1,5 +1,5 @@
 -- The order on controls as words is that on stages and switches of crate routing; so the first words are first. Assumes nothing.
-use mathlib.Core.Path.{_≡_, sym, _∙_, ap, ap₂}
+use mathlib.Core.Path.{_≡_, refl, sym, _∙_, ap, ap₂}
 use mathlib.Core.Logic.{_⊎_, inl, inr}
 use mathlib.Core.List.{List}
 use Prim.Native.Nat.{ℕ, zero, suc, _+_, _-_, _/_, _^_, _<_}
@@ -12,7 +12,7 @@ use Rattle.routing.specs.Lists.{Words, ListPermutes, controlIn, butterflyFrom, 
 use Rattle.routing.proofs.StageWords.{words-cong, first-words}
 use Rattle.permute.specs.First.{travelled, control, UsesBoth, Before, Later, First}
 use Rattle.permute.proofs.Realised.{brings-realises, realises-brings}
-use Rattle.permute.proofs.FirstWords.{travelled-butterfly, travelled-inverse, zero-control, one-control, same-control, words-used, words-back}
+use Rattle.permute.proofs.FirstWords.{travelled-butterfly, travelled-inverse, control-bit, words-used, words-back}
 
 -- the number of a stage in the direction of travel
 abbrev number : ℕ → Stage → ℕ
@@ -69,8 +69,8 @@ module _ (L : ℕ) (k l : Words) (u : UsesBoth L k) (v : UsesBoth L l) where
         inStages = number-lt L c h;
         inSwitches = switch-lt L (r .switch) h (r .inside .switch);
         before = λ i s hi hs q. agrees i s hi hs q;
-        passes = one-control (getD (travelled k) (number L c) 0) (r .switch) (sym (control-at L k (u .0 .0) c (r .switch) h) ∙ r .passes);
-        swaps = zero-control (getD (travelled l) (number L c) 0) (r .switch) (sym (control-at L l (v .0 .0) c (r .switch) h) ∙ r .swaps);
+        passes = control-bit (getD (travelled k) (number L c) 0) (r .switch) (sym (control-at L k (u .0 .0) c (r .switch) h) ∙ r .passes);
+        swaps = control-bit (getD (travelled l) (number L c) 0) (r .switch) (sym (control-at L l (v .0 .0) c (r .switch) h) ∙ r .swaps);
       }
     where
       before : (i s : ℕ) (d : At L i) → Before i s (number L (r .at-stage)) (r .switch) → place.SwitchBefore (d .stage) s (r .at-stage) (r .switch)
@@ -82,8 +82,9 @@ module _ (L : ℕ) (k l : Words) (u : UsesBoth L k) (v : UsesBoth L l) where
           let d = stage-at L i hi in
           let e = r .before (d .stage) s (record { at-stage = d .inside; switch = omega arith }) (before i s d q) in
           rw (d .is) at
-          (same-control (getD (travelled k) (number L (d .stage)) 0) (getD (travelled l) (number L (d .stage)) 0) s
-          (sym (control-at L k (u .0 .0) (d .stage) s (d .inside)) ∙ e ∙ control-at L l (v .0 .0) (d .stage) s (d .inside)))
+          (control-bit (getD (travelled k) (number L (d .stage)) 0) s
+          (sym (control-at L k (u .0 .0) (d .stage) s (d .inside)) ∙ e ∙ control-at L l (v .0 .0) (d .stage) s (d .inside))
+          ∙ sym (control-bit (getD (travelled l) (number L (d .stage)) 0) s refl))
 
 -- Demand 3's second sentence, over every exponent: a permutation gets the first controls.
 pub first-controls : (L : ℕ) (entries : List ℕ) → ListPermutes (2 ^ L) entries → First L (firstWords L entries) entries

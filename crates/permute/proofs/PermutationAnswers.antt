@@ -1,52 +1,54 @@
--- What the calls' answers come to, by the tests that the code makes. Assumes nothing.
-use mathlib.Core.Path.{_≡_, refl, sym, _∙_, ap, ap₂}
+-- The refusals of the calls on permutations: by the tests that the code makes, lowest first (demand 1), and what a call that is carried out is on.
+-- Assumes nothing.
+use mathlib.Core.Path.{_≡_, refl, sym, _∙_, ap}
+use mathlib.Core.Logic.{inl, inr}
 use mathlib.Core.Bool.{Bool, true, false, not, cond}
-use mathlib.Core.List.{List, [], _∷_}
+use mathlib.Core.List.{List, [], _∷_, _++_}
 use Prim.Native.Nat.{ℕ, _^_, _≤_}
 use native.Mathlib.Omega.{arith}
 use lib.Dec.{eqb}
 use lib.ListN.{length}
-use borrow.Author.Tests.{ne-eqb, eqb-true}
-use Rattle.bits.specs.Refusal.{logOf, accepted, lowest, IsLowest}
-use Rattle.bits.proofs.Refusals.{log-width, log-le, lowest-law}
-use Rattle.network.specs.Calls.{six, controls}
-use Rattle.routing.specs.Lists.{ListPermutes}
+use borrow.Author.Tests.{ne-eqb, eqb-true, not-false}
+use Rattle.bits.specs.Refusal.{logOf, accepted, lowest, Rising, IsLowest, AnswersLowest}
+use Rattle.bits.proofs.Refusals.{log-width, log-le, lowest-law, answers-lowest, none-applies}
+use Rattle.network.specs.Calls.{controls}
+use Rattle.routing.specs.Lists.{ListPermutes, firstWords}
+use Rattle.permute.specs.declared.Routed.{Routed}
 use Rattle.permute.specs.declared.RoutedOne.{RoutedOne}
 use Rattle.permute.specs.Permutation.{namesOnce}
-use Rattle.permute.specs.Calls.{routeConditions, routeRefusal, oneConditions, oneRefusal, oneAnswer}
+use Rattle.permute.specs.Calls.{routeConditions, routeRefusal, routeAnswer, oneConditions, oneRefusal, oneAnswer}
 use Rattle.permute.proofs.Names.{names-permutes}
 
-abbrev byTests : Bool → Bool → Bool → ℕ
-byTests a f g = lowest ((1, not a) ∷ (4, not f) ∷ (5, not g) ∷ [])
+-- demand 1 leaves one number
+lowest-only : (cs : List (ℕ × Bool)) (r s : ℕ) → IsLowest cs r → IsLowest cs s → r ≡ s
+lowest-only cs r s (inl a) (inl b) = a .0 ∙ sym (b .0)
+lowest-only cs r s (inl a) (inr b) = absurd (a .1 s (b .0))
+lowest-only cs r s (inr a) (inl b) = absurd (b .1 r (a .0))
+lowest-only cs r s (inr a) (inr b) = omega (arith, a .1 s (b .0), b .1 r (a .0))
+
+-- conditions after others count only if none of those holds
+lowest-more : (b : ℕ) (cs ds : List (ℕ × Bool)) → Rising b cs → lowest (cs ++ ds) ≡ cond (eqb (lowest cs) 0) (lowest ds) (lowest cs)
+lowest-more b [] ds r = refl
+lowest-more b (c ∷ cs) ds r = by (c .1) (lowest-more (c .0) cs ds (r .1))
+  where
+    by : (t : Bool) → lowest (cs ++ ds) ≡ cond (eqb (lowest cs) 0) (lowest ds) (lowest cs)
+        → cond t (c .0) (lowest (cs ++ ds)) ≡ cond (eqb (cond t (c .0) (lowest cs)) 0) (lowest ds) (cond t (c .0) (lowest cs))
+    by true e = let n : c .0 ≡ 0 → ⊥ = λ z. omega (arith, r .0) in rw (ne-eqb (c .0) 0 n)
+    by false e = e
 
 module _ (w : ℕ) (es : List ℕ) where
-  pub route-refusal-by : {a f g : Bool} → accepted w ≡ a → eqb (length es) w ≡ f → namesOnce w es ≡ g → routeRefusal w es ≡ byTests a f g
+  -- the refusal, from the outcomes of the three tests: an accepted width, its length, every bit named once
+  pub route-refusal-by : {a f g : Bool} → accepted w ≡ a → eqb (length es) w ≡ f → namesOnce w es ≡ g
+      → routeRefusal w es ≡ lowest ((1, not a) ∷ (4, not f) ∷ (5, not g) ∷ [])
   unfolding routeRefusal
-  route-refusal-by {a} {f} {g} p q r =
-      ap (λ (b : Bool). byTests b (eqb (length es) w) (namesOnce w es)) p
-      ∙ ap (λ (b : Bool). byTests a b (namesOnce w es)) q
-      ∙ ap (λ (b : Bool). byTests a f b) r
-
-  -- demand 1
-  pub route-refusal-lowest : IsLowest (routeConditions w es) (routeRefusal w es)
-  unfolding routeRefusal
-  route-refusal-lowest = lowest-law (routeConditions w es) (omega arith)
-
-  pub one-refusal-lowest : (fits : ℕ → List ℕ → Bool) → IsLowest (oneConditions fits w es) (oneRefusal fits w es)
-  unfolding oneRefusal
-  one-refusal-lowest fits = lowest-law (oneConditions fits w es) (omega arith)
+  route-refusal-by p q r = λ i. lowest ((1, not (p i)) ∷ (4, not (q i)) ∷ (5, not (r i)) ∷ [])
 
   -- a call that is not refused is on a permutation of an accepted width
   pub route-within : routeRefusal w es ≡ 0 → (accepted w ≡ true) × (length es ≡ w) × (namesOnce w es ≡ true)
+  unfolding routeRefusal
   route-within e =
-      by-tests (accepted w) (eqb (length es) w) (namesOnce w es) refl refl refl (sym (route-refusal-by refl refl refl) ∙ e)
-    where
-      by-tests : (a f g : Bool) → accepted w ≡ a → eqb (length es) w ≡ f → namesOnce w es ≡ g → byTests a f g ≡ 0
-          → (accepted w ≡ true) × (length es ≡ w) × (namesOnce w es ≡ true)
-      by-tests true true true p q r z = (p, eqb-true (length es) w q, r)
-      by-tests true true false p q r z = absurd (omega arith)
-      by-tests true false g p q r z = absurd (omega arith)
-      by-tests false f g p q r z = absurd (omega arith)
+      let n = none-applies (routeConditions w es) (omega arith) e in
+      (not-false _ (n .0), eqb-true (length es) w (not-false _ (n .1 .0)), not-false _ (n .1 .1 .0))
 
   pub route-permutes : {n l : ℕ} → n ≡ routeRefusal w es → n ≡ 0 → l ≡ logOf w → (l ≤ 6) × ListPermutes (2 ^ l) es
   route-permutes {n} {l} e z q =
@@ -55,49 +57,36 @@ module _ (w : ℕ) (es : List ℕ) where
       let v : w ≡ 2 ^ l = p .0 ∙ ap (λ (k : ℕ). 2 ^ k) (sym q) in
       (omega (arith, log-le w), rw v at (names-permutes w es (i .1) (i .2)))
 
-  -- one network: the refusal of both networks, or 6
+  -- demand 1
+  pub route-lowest : AnswersLowest (routeConditions w es) (λ a. a .refusal) (λ n. record { refusal = n; butterfly = controls []; inverse = controls [] })
+      (routeAnswer w es)
+  unfolding routeAnswer routeRefusal
+  route-lowest =
+      let k = firstWords (logOf w) es in
+      answers-lowest (routeConditions w es) (omega arith) (λ (a : Routed). a .refusal)
+      (λ n. record { refusal = n; butterfly = controls []; inverse = controls [] })
+      (record { refusal = 0; butterfly = controls (k .butterfly); inverse = controls (k .inverse) }) refl (λ n. refl)
+
+  pub route-number : routeAnswer w es .refusal ≡ routeRefusal w es
+  unfolding routeRefusal
+  route-number = lowest-only (routeConditions w es) (routeAnswer w es .refusal) _ (route-lowest .least) (lowest-law (routeConditions w es) (omega arith))
+
+  -- one network alone
   module _ (fits : ℕ → List ℕ → Bool) where
-    one-refused : (routeRefusal w es ≡ 0 → ⊥) → oneRefusal fits w es ≡ routeRefusal w es
+    -- the refusal of both networks, or 6
+    pub one-refusal : oneRefusal fits w es ≡ cond (eqb (routeRefusal w es) 0) (cond (not (fits (logOf w) es)) 6 0) (routeRefusal w es)
     unfolding oneRefusal routeRefusal
-    one-refused n = by (accepted w) (eqb (length es) w) (namesOnce w es) n
-      where
-        by : (a f g : Bool) → (byTests a f g ≡ 0 → ⊥)
-            → lowest ((1, not a) ∷ (4, not f) ∷ (5, not g) ∷ (6, not (fits (logOf w) es)) ∷ []) ≡ byTests a f g
-        by true true true n = absurd (n refl)
-        by true true false n = refl
-        by true false g n = refl
-        by false f g n = refl
+    one-refusal = lowest-more 0 (routeConditions w es) ((6, not (fits (logOf w) es)) ∷ []) (omega arith)
 
-    one-carried : routeRefusal w es ≡ 0 → oneRefusal fits w es ≡ cond (fits (logOf w) es) 0 6
-    unfolding oneRefusal routeRefusal
-    one-carried e = by (accepted w) (eqb (length es) w) (namesOnce w es) (fits (logOf w) es) e
-      where
-        by : (a f g h : Bool) → byTests a f g ≡ 0
-            → lowest ((1, not a) ∷ (4, not f) ∷ (5, not g) ∷ (6, not h) ∷ []) ≡ cond h 0 6
-        by true true true true e = refl
-        by true true true false e = refl
-        by true true false h e = absurd (omega arith)
-        by true false g h e = absurd (omega arith)
-        by false f g h e = absurd (omega arith)
+    module _ (alone : ℕ → List ℕ → List ℕ) where
+      pub alone-lowest : AnswersLowest (oneConditions fits w es) (λ a. a .refusal) (λ n. record { refusal = n; controls = controls [] })
+          (oneAnswer fits alone w es)
+      unfolding oneAnswer oneRefusal
+      alone-lowest =
+          answers-lowest (oneConditions fits w es) (omega arith) (λ (a : RoutedOne). a .refusal) (λ n. record { refusal = n; controls = controls [] })
+          (record { refusal = 0; controls = controls (alone (logOf w) es) }) refl (λ n. refl)
 
-    module _ (alone : ℕ → List ℕ → List ℕ) {n : ℕ} (e : n ≡ routeRefusal w es) where
-      pub one-turned-back : (n ≡ 0 → ⊥) → _≡_ {A = RoutedOne} (record { refusal = n; controls = controls [] }) (oneAnswer fits alone w es)
-      unfolding oneAnswer
-      one-turned-back z =
-          let q : oneRefusal fits w es ≡ n = one-refused (λ y. z (e ∙ y)) ∙ sym e in
-          rw (q, ne-eqb n 0 z)
-
-      pub one-answered : n ≡ 0 → {l : ℕ} {b : Bool} {cs : List ℕ} → l ≡ logOf w → b ≡ fits l es → cs ≡ cond (fits l es) (six (alone l es)) (six [])
-          → _≡_ {A = RoutedOne} (record { refusal = cond b 0 6; controls = record { stages = cs } }) (oneAnswer fits alone w es)
-      unfolding oneAnswer
-      one-answered z {l} {b} {cs} q f c =
-          ap₂ (λ (n : ℕ) (s : List ℕ). record { refusal = n; controls = record { stages = s } })
-          (ap (λ (t : Bool). cond t 0 6) (f ∙ ap (λ (k : ℕ). fits k es) q))
-          (c ∙ ap (λ (k : ℕ). cond (fits k es) (six (alone k es)) (six [])) q)
-          ∙ by (fits (logOf w) es) (oneRefusal fits w es) (six (alone (logOf w) es)) (one-carried (sym e ∙ z))
-        where
-          by : (h : Bool) (r : ℕ) (x : List ℕ) → r ≡ cond h 0 6
-              → _≡_ {A = RoutedOne} (record { refusal = cond h 0 6; controls = record { stages = cond h x (six []) } })
-              (cond (eqb r 0) (record { refusal = 0; controls = record { stages = x } }) (record { refusal = r; controls = controls [] }))
-          by true r x p = rw p
-          by false r x p = rw p
+      pub one-number : oneAnswer fits alone w es .refusal ≡ oneRefusal fits w es
+      unfolding oneRefusal
+      one-number =
+          lowest-only (oneConditions fits w es) (oneAnswer fits alone w es .refusal) _ (alone-lowest .least) (lowest-law (oneConditions fits w es) (omega arith))

@@ -14,9 +14,9 @@ use Rattle.bits.proofs.Word.{bit-cases}
 use Rattle.network.specs.Stage.{falling, rising}
 use Rattle.network.specs.Stage as word
 use Rattle.network.proofs.Travel.{origin, length-rising}
-use Rattle.routing.specs.Stages.{through, network}
+use Rattle.routing.specs.Stages.{through}
 use Rattle.routing.specs.Stages as place
-use Rattle.routing.specs.Lists.{Words, controlIn, butterflyFrom, inverseFrom, fromWords}
+use Rattle.routing.specs.Lists.{controlIn, butterflyFrom, inverseFrom}
 
 -- one stage
 
@@ -25,7 +25,7 @@ unfolding place.switchAt word.switchOf
 switch-same e p =
     ap (λ (n : ℕ). n * 2 ^ e + p % 2 ^ e) (ap (λ (n : ℕ). p / n) (pow-suc 2 e) ∙ sym (div-div-eq-div-mul p (2 ^ e) 2))
 
-pub through-source : (e c p : ℕ) → through e (controlIn c) p ≡ word.source (2 ^ e) c p
+through-source : (e c p : ℕ) → through e (controlIn c) p ≡ word.source (2 ^ e) c p
 unfolding through word.source place.partnerAt word.partner controlIn bit
 through-source e c p =
     ap (λ (s : ℕ). cond (eqb (bit c s) 0) (word.partner (2 ^ e) p) p) (switch-same e p) ∙ by-cases (bit-cases c (word.switchOf (2 ^ e) p))
@@ -38,7 +38,7 @@ through-source e c p =
 
 -- both networks
 
-pub butterfly-origin : (n : ℕ) (cs : List ℕ) (c : ℕ → ℕ → Bool) → length cs ≡ n → ((e : ℕ) → e < n → c e ≡ controlIn (getD cs (n - suc e) 0))
+butterfly-origin : (n : ℕ) (cs : List ℕ) (c : ℕ → ℕ → Bool) → length cs ≡ n → ((e : ℕ) → e < n → c e ≡ controlIn (getD cs (n - suc e) 0))
     → (p : ℕ) → place.butterfly n c p ≡ origin (falling n) cs p
 unfolding place.butterfly origin falling
 butterfly-origin zero cs c l f p = refl
@@ -59,7 +59,7 @@ origin-last [] (b ∷ cs) e d c p = absurd (omega arith)
 origin-last (a ∷ ds) [] e d c p = absurd (omega arith)
 origin-last (a ∷ ds) (b ∷ cs) e d c p = ap (word.source a b) (origin-last ds cs (omega arith) d c p)
 
-pub inverse-origin : (n : ℕ) (cs : List ℕ) (c : ℕ → ℕ → Bool) → n ≤ length cs → ((e : ℕ) → e < n → c e ≡ controlIn (getD cs e 0))
+inverse-origin : (n : ℕ) (cs : List ℕ) (c : ℕ → ℕ → Bool) → n ≤ length cs → ((e : ℕ) → e < n → c e ≡ controlIn (getD cs e 0))
     → (p : ℕ) → place.inverse n c p ≡ origin (rising n) (take n cs) p
 unfolding place.inverse origin rising
 inverse-origin zero cs c l f p = refl
@@ -71,12 +71,15 @@ inverse-origin (suc n) cs c l f p =
     ∙ ap (origin (rising n) (take n cs)) (ap (λ (k : ℕ → Bool). through n k p) (f n (omega arith)) ∙ through-source n e p)
     ∙ sym (ap (λ (es : List ℕ). origin (rising n ++ (2 ^ n ∷ [])) es p) t ∙ origin-last (rising n) (take n cs) q (2 ^ n) e p)
 
-pub network-origin : (L : ℕ) (k : Words) → length (k .butterfly) ≡ L → length (k .inverse) ≡ L → (p : ℕ)
-    → network L (fromWords L k) p ≡ origin (falling L) (k .butterfly) (origin (rising L) (k .inverse) p)
-unfolding network butterflyFrom inverseFrom
-network-origin L k b i p =
-    let t : take L (k .inverse) ≡ k .inverse = ap (λ (n : ℕ). take n (k .inverse)) (sym i) ∙ take-length (k .inverse) in
-    butterfly-origin L (k .butterfly) (butterflyFrom L (k .butterfly)) b (λ e h. refl) (place.inverse L (inverseFrom (k .inverse)) p)
-    ∙ ap (origin (falling L) (k .butterfly))
-    (inverse-origin L (k .inverse) (inverseFrom (k .inverse)) (omega arith) (λ e h. refl) p
-    ∙ ap (λ (cs : List ℕ). origin (rising L) cs p) t)
+-- of L stages, as lists of words
+
+module _ (L : ℕ) (cs : List ℕ) (long : length cs ≡ L) (p : ℕ) where
+  pub butterfly-from : place.butterfly L (butterflyFrom L cs) p ≡ origin (falling L) cs p
+  unfolding butterflyFrom
+  butterfly-from = butterfly-origin L cs (butterflyFrom L cs) long (λ e h. refl) p
+
+  pub inverse-from : place.inverse L (inverseFrom cs) p ≡ origin (rising L) cs p
+  unfolding inverseFrom
+  inverse-from =
+      let t : take L cs ≡ cs = ap (λ (n : ℕ). take n cs) (sym long) ∙ take-length cs in
+      inverse-origin L cs (inverseFrom cs) (omega arith) (λ e h. refl) p ∙ ap (λ (ds : List ℕ). origin (rising L) ds p) t

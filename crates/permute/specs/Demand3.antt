@@ -28,15 +28,23 @@ pub record Demand3 (L : ℕ) : Type 0 where
   -- settings that do so come later"
   pub routes : (entries : List ℕ) → ListPermutes (2 ^ L) entries → First L (firstWords L entries) entries
 
--- the same of the calls' answers, at every accepted width w
+-- The same of the calls' answers, at every accepted width w; and each call in it is carried out (refusal 0).
 pub record Demand3Calls (w : ℕ) : Type 0 where
-  pub scatters : (mask word : ℕ) → mask < 2 ^ w → word < 2 ^ w
-      → bitAnd (networkAnswer butterflyOf w (decodeAnswer w mask .butterfly) word .word) mask ≡ answerOf scatterOf w mask word .word
-  pub gathers : (mask word : ℕ) → mask < 2 ^ w → word < 2 ^ w
-      → networkAnswer inverseOf w (decodeAnswer w mask .inverse) (bitAnd word mask) .word ≡ answerOf gatherOf w mask word .word
-  pub routes : (entries : List ℕ) → length entries ≡ w → namesOnce w entries ≡ true
-      → First (logOf w) (stagesIn (logOf w) (routeAnswer w entries)) entries
+  pub scatters : (mask word : ℕ) → mask < 2 ^ w → word < 2 ^ w →
+      let decoded = decodeAnswer w mask in
+      let sent = networkAnswer butterflyOf w (decoded .butterfly) word in
+      let scattered = answerOf scatterOf w mask word in
+      (decoded .refusal ≡ 0) × (sent .refusal ≡ 0) × (scattered .refusal ≡ 0) × (bitAnd (sent .word) mask ≡ scattered .word)
+  pub gathers : (mask word : ℕ) → mask < 2 ^ w → word < 2 ^ w →
+      let decoded = decodeAnswer w mask in
+      let sent = networkAnswer inverseOf w (decoded .inverse) (bitAnd word mask) in
+      let gathered = answerOf gatherOf w mask word in
+      (decoded .refusal ≡ 0) × (sent .refusal ≡ 0) × (gathered .refusal ≡ 0) × (sent .word ≡ gathered .word)
+  pub routes : (entries : List ℕ) → length entries ≡ w → namesOnce w entries ≡ true →
+      let routed = routeAnswer w entries in
+      (routed .refusal ≡ 0) × First (logOf w) (stagesIn (logOf w) routed) entries
   -- and so the calls on both networks permute every word
-  pub permutes : (entries : List ℕ) → length entries ≡ w → namesOnce w entries ≡ true → (word : ℕ) → word < 2 ^ w
-      → networkAnswer inverseOf w (routeAnswer w entries .inverse) (networkAnswer butterflyOf w (routeAnswer w entries .butterfly) word .word)
-      ≡ record { refusal = 0; word = pick entries word }
+  pub permutes : (entries : List ℕ) → length entries ≡ w → namesOnce w entries ≡ true → (word : ℕ) → word < 2 ^ w →
+      let routed = routeAnswer w entries in
+      let sent = networkAnswer butterflyOf w (routed .butterfly) word in
+      (sent .refusal ≡ 0) × (networkAnswer inverseOf w (routed .inverse) (sent .word) ≡ record { refusal = 0; word = pick entries word })

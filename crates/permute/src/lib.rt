@@ -4,11 +4,12 @@ ghost use mathlib.Core.Path.{_≡_};
 ghost use mathlib.Core.Bool.{cond};
 ghost use mathlib.Core.List.{[]};
 ghost use Prim.Native.Nat.{_≤_};
+ghost use Rattle.network.specs.Stage.{butterflyOf, inverseOf};
 ghost use Rattle.network.specs.Calls.{controls};
 ghost use Rattle.routing.specs.Lists.{butterflyFits, butterflyAlone, inverseFits, inverseAlone};
 ghost use Rattle.alone.specs.Calls.{fitsAlone, alone};
 ghost use Rattle.permute.specs.Permutation.{namesOnce};
-ghost use Rattle.permute.specs.Calls.{routeRefusal, routeAnswer, AnswersFirst, oneAnswer};
+ghost use Rattle.permute.specs.Calls.{routeRefusal, routeAnswer, AnswersFirst, oneAnswer, AnswersAlone};
 
 // What `route` answers: 0 and the controls of both networks, or the number of the refusal and zeros.
 #[repr(C)]
@@ -85,16 +86,18 @@ pub fn route(width: u32, entries: &[u8]) -> Routed
     }
 }
 
-// The controls of the butterfly alone that realise the permutation.
+// The controls of the butterfly alone that realise the permutation, or refusal 6 exactly if there are none.
 pub fn route_butterfly(width: u32, entries: &[u8]) -> RoutedOne
     ensures { λ r. ⌜ r ≡ oneAnswer butterflyFits butterflyAlone width (now (entries .entry)) ⌝ }
+    ensures alone { λ r. ⌜ AnswersAlone butterflyOf width (now (entries .entry)) r ⌝ }
 {
     route_one(false, width, entries)
 }
 
-// The controls of the inverse alone that realise the permutation.
+// The same of the inverse alone.
 pub fn route_inverse(width: u32, entries: &[u8]) -> RoutedOne
     ensures { λ r. ⌜ r ≡ oneAnswer inverseFits inverseAlone width (now (entries .entry)) ⌝ }
+    ensures alone { λ r. ⌜ AnswersAlone inverseOf width (now (entries .entry)) r ⌝ }
 {
     route_one(true, width, entries)
 }
@@ -102,6 +105,7 @@ pub fn route_inverse(width: u32, entries: &[u8]) -> RoutedOne
 // The controls of the inverse alone (rising) or of the butterfly alone.
 fn route_one(rising: bool, width: u32, entries: &[u8]) -> RoutedOne
     ensures { λ r. ⌜ r ≡ oneAnswer (fitsAlone rising) (alone rising) width (now (entries .entry)) ⌝ }
+    ensures alone { λ r. ⌜ AnswersAlone (cond rising inverseOf butterflyOf) width (now (entries .entry)) r ⌝ }
 {
     let refused = refusal(width, entries);
     if refused != 0 {

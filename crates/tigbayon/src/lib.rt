@@ -12,7 +12,7 @@ ghost use Rattle.routing.specs.Lists.{butterflyFits, butterflyAlone, inverseFit
 ghost use Rattle.unit.specs.Run.{ranAt, runOf};
 ghost use Rattle.unit.specs.Calls.{operated, operateOf, readOf, written, writeOf};
 ghost use Rattle.pack.specs.Calls.{packAnswer, packedOut, unpackAnswer, unpackedOut};
-ghost use Rattle.permute.specs.Calls.{routeAnswer, AnswersFirst, oneAnswer};
+ghost use Rattle.permute.specs.Calls.{routeAnswer, AnswersFirst, oneAnswer, AnswersAlone};
 ghost use Rattle.gather.specs.Gather.{gatherOf, scatterOf, groupOf, answerOf};
 
 #[no_mangle]
@@ -100,6 +100,7 @@ pub extern "C" fn tb_route(width: u32, permutation: &[u8]) -> permute::Routed
 #[no_mangle]
 pub extern "C" fn tb_route_butterfly(width: u32, permutation: &[u8]) -> permute::RoutedOne
     ensures { λ r. ⌜ r ≡ oneAnswer butterflyFits butterflyAlone width (now (permutation .entry)) ⌝ }
+    ensures alone { λ r. ⌜ AnswersAlone butterflyOf width (now (permutation .entry)) r ⌝ }
 {
     permute::route_butterfly(width, permutation)
 }
@@ -107,6 +108,7 @@ pub extern "C" fn tb_route_butterfly(width: u32, permutation: &[u8]) -> permute:
 #[no_mangle]
 pub extern "C" fn tb_route_inverse(width: u32, permutation: &[u8]) -> permute::RoutedOne
     ensures { λ r. ⌜ r ≡ oneAnswer inverseFits inverseAlone width (now (permutation .entry)) ⌝ }
+    ensures alone { λ r. ⌜ AnswersAlone inverseOf width (now (permutation .entry)) r ⌝ }
 {
     permute::route_inverse(width, permutation)
 }

@@ -1,7 +1,8 @@
 -- `permute::route_one` meets its contract. Assumes nothing.
 use mathlib.Core.Path.{_∙_}
 use Rattle.alone.specs.Calls.{fitsAlone, alone}
-use Rattle.permute.proofs.PermutationAnswers.{route-permutes, one-turned-back, one-answered}
+use Rattle.permute.proofs.PermutationAnswers.{route-permutes}
+use Rattle.permute.proofs.AloneAnswers.{one-turned-back, one-answered, answers-alone, either-alone}
 use borrow.Author.Needs.{needs}
 use Rattle.permute.proofs.route_one.Statement.{statement}
 use Rattle.permute.proofs.route_one.Tie as tie
@@ -16,7 +17,9 @@ returns : tie.Need-returns
 returns c =
     let b = c .before in
     let a = b .before .before .before .args in
-    c .refused-one .ensures ∙ one-turned-back (a .width) (a .entries .now) (fitsAlone (a .rising)) (alone (a .rising)) (b .before .refusal .ensures) (b .if1 .taken)
+    let fits = fitsAlone (a .rising) in
+    let e = c .refused-one .ensures ∙ one-turned-back (a .width) (a .entries .now) fits (alone (a .rising)) (b .before .refusal .ensures) (b .if1 .taken) in
+    (e, answers-alone (a .width) (a .entries .now) fits (alone (a .rising)) (either-alone (a .rising)) e)
 
 log-of-requires : tie.Need-log-of-requires
 log-of-requires c κs = search needs
@@ -38,8 +41,11 @@ returns-2 c =
     let b = c .before .before .before in
     let a = b .before .before .before .args in
     let f = c .before .controls .ensures in
-    c .answer-one .ensures ∙ one-answered (a .width) (a .entries .now) (fitsAlone (a .rising)) (alone (a .rising)) (b .before .refusal .ensures) (b .if1 .left) (c .before .before .log-of .ensures)
-    (f .0) (f .1)
+    let fits = fitsAlone (a .rising) in
+    let e = c .answer-one .ensures
+    ∙ one-answered (a .width) (a .entries .now) fits (alone (a .rising)) (b .before .refusal .ensures) (b .if1 .left) (c .before .before .log-of .ensures) (f .0) (f .1)
+    in
+    (e, answers-alone (a .width) (a .entries .now) fits (alone (a .rising)) (either-alone (a .rising)) e)
 
 pub route-one-spec : {M : Type 1} → statement M
 route-one-spec =
