@@ -1,4 +1,5 @@
--- What the calls' answers come to, by the tests that the code makes. Assumes nothing.
+-- What the calls answer, by the tests that the code makes: whether controls fit, the lowest refusal (demand 1), the networks, prepared ones, the decoder.
+-- Assumes nothing.
 use mathlib.Core.Path.{_≡_, refl, sym, _∙_, ap, ap₂}
 use mathlib.Core.Bool.{Bool, true, false, not, cond, _&&_, false≢true}
 use mathlib.Core.List.{List, [], _∷_, reverse}
@@ -12,6 +13,8 @@ use lib.ListN.{length, getD, take, drop, replicate, drop-of-length-le}
 use Rattle.network.proofs.MaskRouting.{length-decode}
 use lib.Pow.{pow-mono}
 use lib.Seq.{drop-cons, take-at}
+use mir.Val.{Fits}
+use mir.Syntax.{w32}
 use borrow.Author.Tests.{eq-eqb, ne-eqb, lt-ltb, le-ltb, ltb-true, not-false}
 use Rattle.bits.specs.Refusal.{logOf, accepted, fits, lowest, AnswersLowest}
 use Rattle.bits.proofs.Refusals.{log-width, answers-lowest, none-applies}
@@ -116,10 +119,10 @@ module _ (f : ℕ → List ℕ → ℕ → ℕ) (w : ℕ) (k : Controls) (x : �
       by (no h) = let z : n ≡ 0 = omega arith in rw (g, ← e, z)
 
   -- at width 64 every control bit is used, and every call is carried out
-  pub network-whole : length (k .stages) ≡ 6 → ((i : ℕ) → getD (k .stages) i 0 < 2 ^ 32) → x < 2 ^ 64
+  pub network-whole : length (k .stages) ≡ 6 → ((i : ℕ) → Fits w32 (getD (k .stages) i 0)) → x < 2 ^ 64
       → {y : ℕ} → w ≡ 64 → y ≡ f 6 (k .stages) x → _≡_ {A = Carried} (record { refusal = 0; word = y }) (networkAnswer f w k x)
   network-whole n u h e y =
-      let used = each-fit 6 0 (k .stages) (λ i l. rw (zero-add i, lt-ltb i 6 (omega arith)) (u i)) in
+      let used = each-fit 6 0 (k .stages) (λ i l. rw (zero-add i, lt-ltb i 6 (omega arith)) (u i .fits)) in
       sym (network-is (rw e) (rw e h) (rw e used) ∙ rw (e, y))
 
 -- a call that makes a network ready
