@@ -12,3 +12,4 @@ pub mod Filling
 pub mod CallRouting
 pub mod Six
 pub mod SixSteps
+pub mod Reversal

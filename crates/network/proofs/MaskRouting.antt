@@ -1,44 +1,48 @@
 -- Mask routing, over every exponent: the networks undo each other, and on decoded controls they are scatter and gather. Assumes nothing.
 use mathlib.Core.Path.{_≡_, sym, _∙_, ap}
+use mathlib.Core.Bool.{Bool, true, false, not}
 use mathlib.Core.List.{List, reverse}
 use Prim.Native.Nat.{ℕ, _/_, _^_, _<_}
 use native.Mathlib.Omega.{arith}
 use lib.Bits.{bitAnd, and-le-r}
 use lib.ListN.{length, length-map}
-use Rattle.bits.specs.Bit.{bit}
 use Rattle.bits.proofs.Word.{bit-and, ofBits-lt, ext}
 use Rattle.gather.specs.Gather.{gatherOf, scatterOf}
 use Rattle.gather.proofs.AnyWidth.{gather-lt, scatter-lt}
 use Rattle.gather.proofs.Theorems.{bit-scatter}
-use Rattle.network.specs.Stage.{source, stage, falling, rising, butterflyOf, inverseOf}
+use Rattle.network.specs.Stage.{falling, butterflyOf, inverseOf}
+use Rattle.network.specs.Word.{distances, travelOf}
 use Rattle.network.specs.Decoder.{decodedStage, controlAt, decodeOf, decodeInverseOf}
-use Rattle.network.proofs.Travel.{Fits, source-below, bit-stage, travel-lt, travel-back, falling-fit, rising-fit, reverse-falling, reverse-rising, length-falling, length-rising}
+use Rattle.network.proofs.Travel.{travel-lt, travel-back, distances-fit, reverse-distances, length-distances, length-falling}
 use Rattle.network.proofs.Decoding.{routed-masked, routed-gather}
-pub use Rattle.network.proofs.Turn.{turned-bit}
-pub use Rattle.network.proofs.Travel.{stage-lt, stage-stage}
 
-pub stage-bit : {w d : ℕ} → Fits w d → (c x p : ℕ) → p < w → (source d c p < w) × (bit (stage w d c x) p ≡ bit x (source d c p))
-stage-bit {w} {d} f c x p h = (source-below f c p h, bit-stage w d c x p h)
+module _ (b : Bool) (L : ℕ) (cs : List ℕ) where
+  pub travel-of-lt : {x : ℕ} → x < 2 ^ 2 ^ L → travelOf b L cs x < 2 ^ 2 ^ L
+  unfolding travelOf
+  travel-of-lt h = travel-lt (2 ^ L) (distances b L) cs h
 
-pub butterfly-lt : (L : ℕ) (cs : List ℕ) {x : ℕ} → x < 2 ^ 2 ^ L → butterflyOf L cs x < 2 ^ 2 ^ L
-unfolding butterflyOf
-butterfly-lt L cs h = travel-lt (2 ^ L) (falling L) cs h
+  -- each network on reversed stages undoes the other, for any controls
+  pub undoes : length cs ≡ L → (x : ℕ) → x < 2 ^ 2 ^ L → travelOf (not b) L (reverse cs) (travelOf b L cs x) ≡ x
+  unfolding travelOf
+  undoes e x h =
+      rw (← reverse-distances b L) (travel-back (2 ^ L) (distances b L) cs (e ∙ sym (length-distances b L)) (distances-fit b L (omega arith)) h)
 
-pub inverse-lt : (L : ℕ) (cs : List ℕ) {x : ℕ} → x < 2 ^ 2 ^ L → inverseOf L cs x < 2 ^ 2 ^ L
-unfolding inverseOf
-inverse-lt L cs h = travel-lt (2 ^ L) (rising L) cs h
+module _ (L : ℕ) (cs : List ℕ) where
+  pub butterfly-lt : {x : ℕ} → x < 2 ^ 2 ^ L → butterflyOf L cs x < 2 ^ 2 ^ L
+  unfolding butterflyOf travelOf
+  butterfly-lt = travel-of-lt false L cs
 
--- each network on reversed stages undoes the other, for any controls
+  pub inverse-lt : {x : ℕ} → x < 2 ^ 2 ^ L → inverseOf L cs x < 2 ^ 2 ^ L
+  unfolding inverseOf travelOf
+  inverse-lt = travel-of-lt true L cs
 
-pub undo : (L : ℕ) (cs : List ℕ) → length cs ≡ L → (x : ℕ) → x < 2 ^ 2 ^ L → inverseOf L (reverse cs) (butterflyOf L cs x) ≡ x
-unfolding butterflyOf inverseOf
-undo L cs e x h =
-    rw (← reverse-falling L) (travel-back (2 ^ L) (falling L) cs (e ∙ sym (length-falling L)) (falling-fit L (omega arith)) h)
+  pub undo : length cs ≡ L → (x : ℕ) → x < 2 ^ 2 ^ L → inverseOf L (reverse cs) (butterflyOf L cs x) ≡ x
+  unfolding butterflyOf inverseOf travelOf
+  undo = undoes false L cs
 
-pub undo-inverse : (L : ℕ) (cs : List ℕ) → length cs ≡ L → (x : ℕ) → x < 2 ^ 2 ^ L → butterflyOf L (reverse cs) (inverseOf L cs x) ≡ x
-unfolding butterflyOf inverseOf
-undo-inverse L cs e x h =
-    rw (← reverse-rising L) (travel-back (2 ^ L) (rising L) cs (e ∙ sym (length-rising L)) (rising-fit L (omega arith)) h)
+  pub undo-inverse : length cs ≡ L → (x : ℕ) → x < 2 ^ 2 ^ L → butterflyOf L (reverse cs) (inverseOf L cs x) ≡ x
+  unfolding butterflyOf inverseOf travelOf
+  undo-inverse = undoes true L cs
 
 -- the decoder answers one word for each stage, in the bits that a stage uses
 

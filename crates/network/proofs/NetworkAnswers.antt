@@ -1,8 +1,9 @@
--- What the calls' answers come to, by the tests that the code makes. Assumes nothing.
+-- What the calls answer, by the tests that the code makes: whether controls fit, the lowest refusal (demand 1), the networks, prepared ones, the decoder.
+-- Assumes nothing.
 use mathlib.Core.Path.{_≡_, refl, sym, _∙_, ap, ap₂}
-use mathlib.Core.Bool.{Bool, true, false, not, cond, _&&_}
+use mathlib.Core.Bool.{Bool, true, false, not, cond, _&&_, false≢true}
 use mathlib.Core.List.{List, [], _∷_, reverse}
-use Prim.Native.Nat.{ℕ, suc, _+_, _-_, _*_, _%_, _^_, _<_, _≤_}
+use Prim.Native.Nat.{ℕ, zero, suc, _+_, _-_, _*_, _%_, _^_, _<_, _≤_}
 use native.Mathlib.Omega.{arith}
 use native.Mathlib.Decide.{decLt}
 use native.Mathlib.Nat.{pow-succ', mod-eq-of-lt, one-mul, zero-add, add-zero}
@@ -12,9 +13,11 @@ use lib.ListN.{length, getD, take, drop, replicate, drop-of-length-le}
 use Rattle.network.proofs.MaskRouting.{length-decode}
 use lib.Pow.{pow-mono}
 use lib.Seq.{drop-cons, take-at}
-use borrow.Author.Tests.{eq-eqb, ne-eqb, lt-ltb, le-ltb, ltb-true}
-use Rattle.bits.specs.Refusal.{logOf, accepted, fits, lowest, IsLowest}
-use Rattle.bits.proofs.Refusals.{log-width, lowest-law}
+use mir.Val.{Fits}
+use mir.Syntax.{w32}
+use borrow.Author.Tests.{eq-eqb, ne-eqb, lt-ltb, le-ltb, ltb-true, not-false}
+use Rattle.bits.specs.Refusal.{logOf, accepted, fits, lowest, AnswersLowest}
+use Rattle.bits.proofs.Refusals.{log-width, answers-lowest, none-applies}
 use Rattle.network.specs.declared.Controls.{Controls}
 use Rattle.network.specs.declared.Carried.{Carried}
 use Rattle.network.specs.declared.Prepared.{Prepared}
@@ -59,34 +62,31 @@ each-fit L j (c ∷ cs) f =
     ap (λ (b : Bool). b && controlsFit L (suc j) cs) (lt-ltb c (2 ^ usedBits L j) h)
     ∙ each-fit L (suc j) cs (λ i l. let n : j + suc i ≡ suc j + i = omega arith in rw n at (f (suc i) (omega arith)))
 
+both : (a b : Bool) → (a && b) ≡ true → (a ≡ true) × (b ≡ true)
+both true b e = (refl, e)
+both false b e = absurd (false≢true e)
+
+pub fit-each : (L j : ℕ) (cs : List ℕ) → controlsFit L j cs ≡ true → (i : ℕ) → i < length cs → getD cs i 0 < 2 ^ usedBits L (j + i)
+fit-each L j [] e i h = absurd (omega arith)
+fit-each L j (c ∷ cs) e zero h = rw add-zero (ltb-true c (2 ^ usedBits L j) (both (fits (usedBits L j) c) (controlsFit L (suc j) cs) e .0))
+fit-each L j (c ∷ cs) e (suc i) h =
+    let n : suc j + i ≡ j + suc i = omega arith in rw n at (fit-each L (suc j) cs (both (fits (usedBits L j) c) (controlsFit L (suc j) cs) e .1) i (omega arith))
+
 -- a call on a network
 
-abbrev byTests : Bool → Bool → Bool → ℕ
-byTests a f g = lowest ((1, not a) ∷ (2, not f) ∷ (3, not g) ∷ [])
-
 module _ (w : ℕ) (cs : List ℕ) (x : ℕ) where
-  pub network-refusal-by : {a f g : Bool} → accepted w ≡ a → fits w x ≡ f → controlsFit (logOf w) 0 cs ≡ g → networkRefusal w cs x ≡ byTests a f g
+  -- the refusal, from the outcomes of the three tests: an accepted width, a word within it, controls that fit
+  pub network-refusal-by : {a f g : Bool} → accepted w ≡ a → fits w x ≡ f → controlsFit (logOf w) 0 cs ≡ g
+      → networkRefusal w cs x ≡ lowest ((1, not a) ∷ (2, not f) ∷ (3, not g) ∷ [])
   unfolding networkRefusal
-  network-refusal-by {a} {f} {g} p q r =
-      ap (λ (b : Bool). byTests b (fits w x) (controlsFit (logOf w) 0 cs)) p
-      ∙ ap (λ (b : Bool). byTests a b (controlsFit (logOf w) 0 cs)) q
-      ∙ ap (λ (b : Bool). byTests a f b) r
-
-  -- demand 1, of both networks
-  pub network-refusal-lowest : IsLowest (networkConditions w cs x) (networkRefusal w cs x)
-  unfolding networkRefusal
-  network-refusal-lowest = lowest-law (networkConditions w cs x) (omega arith)
+  network-refusal-by p q r = λ i. lowest ((1, not (p i)) ∷ (2, not (q i)) ∷ (3, not (r i)) ∷ [])
 
   -- a call that is carried out is within the limits
   pub network-within : networkRefusal w cs x ≡ 0 → (accepted w ≡ true) × (x < 2 ^ w) × (controlsFit (logOf w) 0 cs ≡ true)
-  network-within e = by-tests (accepted w) (fits w x) (controlsFit (logOf w) 0 cs) refl refl refl (sym (network-refusal-by refl refl refl) ∙ e)
-    where
-      by-tests : (a f g : Bool) → accepted w ≡ a → fits w x ≡ f → controlsFit (logOf w) 0 cs ≡ g → byTests a f g ≡ 0
-          → (accepted w ≡ true) × (x < 2 ^ w) × (controlsFit (logOf w) 0 cs ≡ true)
-      by-tests true true true p q r z = (p, ltb-true x (2 ^ w) q, r)
-      by-tests true true false p q r z = absurd (omega arith)
-      by-tests true false g p q r z = absurd (omega arith)
-      by-tests false f g p q r z = absurd (omega arith)
+  unfolding networkRefusal
+  network-within e =
+      let n = none-applies (networkConditions w cs x) (omega arith) e in
+      (not-false _ (n .0), ltb-true x (2 ^ w) (not-false _ (n .1 .0)), not-false _ (n .1 .1 .0))
 
   pub network-limits : {n l : ℕ} → n ≡ networkRefusal w cs x → n ≡ 0 → l ≡ logOf w → (l ≤ 6) × (x < 2 ^ 2 ^ l)
   network-limits e z q =
@@ -94,22 +94,46 @@ module _ (w : ℕ) (cs : List ℕ) (x : ℕ) where
       let l = log-width w (i .0) in
       (omega (arith, l .2), rw q (rw (l .0) at (i .1)))
 
-module _ (f : ℕ → List ℕ → ℕ → ℕ) (w : ℕ) (k : Controls) (x : ℕ) {n : ℕ} (e : n ≡ networkRefusal w (k .stages) x) where
-  pub network-done : n ≡ 0 → {l y : ℕ} → l ≡ logOf w → y ≡ f l (k .stages) x
-      → _≡_ {A = Carried} (record { refusal = 0; word = y }) (networkAnswer f w k x)
+-- demand 1, of both networks
+pub network-lowest : (f : ℕ → List ℕ → ℕ → ℕ) (w : ℕ) (k : Controls) (x : ℕ)
+    → AnswersLowest (networkConditions w (k .stages) x) (λ a. a .refusal) (λ n. record { refusal = n; word = 0 }) (networkAnswer f w k x)
+unfolding networkAnswer networkRefusal
+network-lowest f w k x =
+    answers-lowest (networkConditions w (k .stages) x) (omega arith) (λ (a : Carried). a .refusal) (λ n. record { refusal = n; word = 0 })
+    (record { refusal = 0; word = f (logOf w) (k .stages) x }) refl (λ n. refl)
+
+module _ (f : ℕ → List ℕ → ℕ → ℕ) (w : ℕ) (k : Controls) (x : ℕ) where
+  pub network-is : accepted w ≡ true → x < 2 ^ w → controlsFit (logOf w) 0 (k .stages) ≡ true
+      → networkAnswer f w k x ≡ record { refusal = 0; word = f (logOf w) (k .stages) x }
   unfolding networkAnswer
-  network-done z q y = rw (← e, eq-eqb n 0 z, y, q)
+  network-is a h g = rw (network-refusal-by w (k .stages) x a (lt-ltb x (2 ^ w) h) g)
 
   -- the refusal, and the word if there is none
-  pub network-by : {y : ℕ} → y ≡ cond (eqb n 0) (f (logOf w) (k .stages) x) 0 → _≡_ {A = Carried} (record { refusal = n; word = y }) (networkAnswer f w k x)
+  pub network-by : {n y : ℕ} → n ≡ networkRefusal w (k .stages) x → y ≡ cond (eqb n 0) (f (logOf w) (k .stages) x) 0
+      → _≡_ {A = Carried} (record { refusal = n; word = y }) (networkAnswer f w k x)
   unfolding networkAnswer
-  network-by {y} g = by (decLt 0 n)
+  network-by {n} {y} e g = by (decLt 0 n)
     where
       by : Dec (0 < n) → _≡_ {A = Carried} (record { refusal = n; word = y }) (networkAnswer f w k x)
       by (yes h) = let z : n ≡ 0 → ⊥ = λ q. omega arith in rw (g, ← e, ne-eqb n 0 z)
       by (no h) = let z : n ≡ 0 = omega arith in rw (g, ← e, z)
 
+  -- at width 64 every control bit is used, and every call is carried out
+  pub network-whole : length (k .stages) ≡ 6 → ((i : ℕ) → Fits w32 (getD (k .stages) i 0)) → x < 2 ^ 64
+      → {y : ℕ} → w ≡ 64 → y ≡ f 6 (k .stages) x → _≡_ {A = Carried} (record { refusal = 0; word = y }) (networkAnswer f w k x)
+  network-whole n u h e y =
+      let used = each-fit 6 0 (k .stages) (λ i l. rw (zero-add i, lt-ltb i 6 (omega arith)) (u i .fits)) in
+      sym (network-is (rw e) (rw e h) (rw e used) ∙ rw (e, y))
+
 -- a call that makes a network ready
+
+-- demand 1, of both: its conditions are those of a call on the word zero
+pub prepare-lowest : (b : Bool) (w : ℕ) (k : Controls)
+    → AnswersLowest (networkConditions w (k .stages) 0) (λ a. a .refusal) (λ n. record { refusal = n; swaps = replicate 6 0 }) (prepareAnswer b w k)
+unfolding prepareAnswer networkRefusal
+prepare-lowest b w k =
+    answers-lowest (networkConditions w (k .stages) 0) (omega arith) (λ (a : Prepared). a .refusal) (λ n. record { refusal = n; swaps = replicate 6 0 })
+    (record { refusal = 0; swaps = preparedOf b (logOf w) (k .stages) }) refl (λ n. refl)
 
 module _ (b : Bool) (w : ℕ) (k : Controls) {n : ℕ} (e : n ≡ networkRefusal w (k .stages) 0) where
   pub prepare-refused : (n ≡ 0 → ⊥) → _≡_ {A = Prepared} (record { refusal = n; swaps = replicate 6 0 }) (prepareAnswer b w k)
@@ -121,30 +145,19 @@ module _ (b : Bool) (w : ℕ) (k : Controls) {n : ℕ} (e : n ≡ networkRefusal
   unfolding prepareAnswer
   prepare-done z q y = rw (← e, eq-eqb n 0 z, y, q)
 
--- At width 64 every control bit is used, and every call is carried out.
-
-pub network-whole : (f : ℕ → List ℕ → ℕ → ℕ) (k : Controls) (x : ℕ) → length (k .stages) ≡ 6 → ((i : ℕ) → getD (k .stages) i 0 < 2 ^ 32) → x < 2 ^ 64
-    → {w y : ℕ} → w ≡ 64 → y ≡ f 6 (k .stages) x → _≡_ {A = Carried} (record { refusal = 0; word = y }) (networkAnswer f w k x)
-network-whole f k x n u h {w} e y =
-    let used = each-fit 6 0 (k .stages) (λ i l. rw (zero-add i, lt-ltb i 6 (omega arith)) (u i)) in
-    let r = network-refusal-by 64 (k .stages) x refl (lt-ltb x (2 ^ 64) h) used in
-    network-done f 64 k x {n = 0} (sym r) refl {l = 6} refl y ∙ ap (λ (v : ℕ). networkAnswer f v k x) (sym e)
-
 -- a call of the decoder
 
-abbrev byMaskTests : Bool → Bool → ℕ
-byMaskTests a f = lowest ((1, not a) ∷ (2, not f) ∷ [])
-
 module _ (w m : ℕ) where
-  pub decode-refusal-by : {a f : Bool} → accepted w ≡ a → fits w m ≡ f → decodeRefusal w m ≡ byMaskTests a f
+  pub decode-refusal-by : {a f : Bool} → accepted w ≡ a → fits w m ≡ f → decodeRefusal w m ≡ lowest ((1, not a) ∷ (2, not f) ∷ [])
   unfolding decodeRefusal
-  decode-refusal-by {a} {f} p q =
-      ap (λ (b : Bool). byMaskTests b (fits w m)) p ∙ ap (λ (b : Bool). byMaskTests a b) q
+  decode-refusal-by p q = λ i. lowest ((1, not (p i)) ∷ (2, not (q i)) ∷ [])
 
   -- demand 1, of the decoder
-  pub decode-refusal-lowest : IsLowest (decodeConditions w m) (decodeRefusal w m)
-  unfolding decodeRefusal
-  decode-refusal-lowest = lowest-law (decodeConditions w m) (omega arith)
+  pub decode-lowest : AnswersLowest (decodeConditions w m) (λ a. a .refusal) (λ n. record { refusal = n; butterfly = controls []; inverse = controls [] }) (decodeAnswer w m)
+  unfolding decodeAnswer decodeRefusal
+  decode-lowest =
+      answers-lowest (decodeConditions w m) (omega arith) (λ (a : Decoded). a .refusal) (λ n. record { refusal = n; butterfly = controls []; inverse = controls [] })
+      (record { refusal = 0; butterfly = controls (decodeOf (logOf w) m); inverse = controls (decodeInverseOf (logOf w) m) }) refl (λ n. refl)
 
   module _ {n : ℕ} (e : n ≡ decodeRefusal w m) where
     pub decode-refused : (n ≡ 0 → ⊥)

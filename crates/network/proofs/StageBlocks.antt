@@ -1,4 +1,5 @@
--- The decoder's code: turned zeros in closed form, and the control bits of a stage block by block. Assumes nothing.
+-- What the decoder's code computes: turned zeros as a window on ones, the control bits of a stage block by block, the stages of a width.
+-- Assumes nothing.
 use mathlib.Core.Path.{_≡_, sym, _∙_, ap}
 use Prim.Native.Nat.{ℕ, zero, suc, _+_, _-_, _*_, _/_, _%_, _^_, _<_, _≤_}
 use native.Mathlib.Omega.{arith}

@@ -1,18 +1,13 @@
--- What the code's steps come to, by the table: one turn of the spreading, a stage, the place of a stage in the table, one stage more of a network.
--- Assumes nothing.
+-- By the table of distances and pairs: one turn of the spreading, the distance of a stage by its index. Assumes nothing.
 use mathlib.Core.Path.{_≡_, sym, _∙_, ap}
-use mathlib.Core.List.{[], _∷_, _++_}
 use Prim.Native.Nat.{ℕ, zero, suc, _+_, _-_, _*_, _%_, _^_, _<_, _≤_}
 use native.Mathlib.Omega.{arith}
-use native.Mathlib.Decide.{decLt}
 use native.Mathlib.Nat.{not-suc-le-zero, pow-succ'}
 use lib.Bits.{bitAnd, bitOr}
-use lib.ListN.{getD, List·getD-append}
+use lib.ListN.{getD}
 use lib.Pow.{pow-mono, pow-pos}
-use lib.Seq.{getD-at}
-use Rattle.network.specs.Stage.{falling, rising}
+use Rattle.network.specs.Stage.{falling}
 use Rattle.network.specs.Word.{spreadOf}
-use Rattle.network.proofs.Travel.{length-rising}
 use Rattle.network.proofs.PairsExchanged.{spread-step}
 use Rattle.network.proofs.Table.{distanceTable, pairTable, distance-at, pair-at}
 
@@ -27,18 +22,7 @@ spread-turn at c h e =
     rw (e, distance-at (at + 1) (omega arith), pair-at (at + 1) (omega arith), w)
     (spread-step (2 ^ (5 - (at + 1))) c (pow-pos (5 - (at + 1))))
 
--- the places of the stages in the table
-
-pub rising-at : (L i : ℕ) → i < L → getD (rising L) i 0 ≡ 2 ^ i
-unfolding rising
-rising-at zero i h = absurd (not-suc-le-zero h)
-rising-at (suc L) i h = by-cases (decLt i L) (rising-at L i)
-  where
-    by-cases : Dec (i < L) → (i < L → getD (rising L) i 0 ≡ 2 ^ i) → getD (rising L ++ (2 ^ L ∷ [])) i 0 ≡ 2 ^ i
-    by-cases (yes l) ih = List·getD-append (rising L) (2 ^ L ∷ []) 0 i (omega (arith, length-rising L)) ∙ ih l
-    by-cases (no n) ih =
-        let e : i ≡ L = omega arith in
-        rw e (getD-at (rising L) (2 ^ L) [] 0 L (length-rising L))
+-- the distance of a stage by its index
 
 pub falling-at : (L i : ℕ) → i < L → getD (falling L) i 0 ≡ 2 ^ (L - 1 - i)
 unfolding falling

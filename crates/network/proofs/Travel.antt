@@ -1,15 +1,17 @@
 -- A word through a stage and through stages one after the other: where each bit comes from, and the way back. Assumes nothing.
 use mathlib.Core.Path.{_≡_, refl, sym, _∙_, ap, ap₂}
+use mathlib.Core.Bool.{Bool, true, false, not}
 use mathlib.Core.List.{List, [], _∷_, _++_, reverse, reverse-cons, reverse-reverse}
-use Prim.Native.Nat.{ℕ, zero, suc, _+_, _-_, _*_, _^_, _<_, _≤_}
+use Prim.Native.Nat.{ℕ, zero, suc, _+_, _-_, _*_, _%_, _^_, _<_, _≤_}
 use native.Mathlib.Omega.{arith}
 use native.Mathlib.Decide.{decLt}
-use native.Mathlib.Nat.{pow-succ'}
-use lib.ListN.{length, getD, length-reverse}
+use native.Mathlib.Nat.{mod-lt, pow-succ'}
+use lib.ListN.{length, length-reverse}
 use lib.Pow.{pow-pos, pow-mono, pow-add}
 use Rattle.bits.specs.Bit.{bit}
-use Rattle.bits.proofs.Word.{bit-mod-two, bit-above, bit-ofBits, ofBits-lt, ext}
+use Rattle.bits.proofs.Word.{bit-mod-two, bit-mod, bit-above, bit-ofBits, ofBits-lt, ext}
 use Rattle.network.specs.Stage.{source, stage, travel, falling, rising}
+use Rattle.network.specs.Word.{distances}
 use Rattle.network.proofs.Index.{source-source, source-injective, source-lt}
 
 -- w places are whole blocks of a stage of distance d
@@ -142,23 +144,53 @@ length-falling (suc n) = ap suc (length-falling n)
 pub length-rising : (n : ℕ) → length (rising n) ≡ n
 length-rising n = ap length (sym (reverse-falling n)) ∙ length-reverse (falling n) ∙ length-falling n
 
--- a stage of whole blocks leaves the zeros above the width, so it is the same at every width that holds the word
-pub stage-wider : {w v d : ℕ} → Fits w d → w ≤ v → (c : ℕ) {x : ℕ} → x < 2 ^ w → stage v d c x ≡ stage w d c x
-stage-wider {w} {v} {d} f l c {x} h =
-    ext v (stage-lt v d c x) (omega (arith, stage-lt w d c x, pow-mono l)) (λ p k. bit-stage v d c x p k ∙ same p (decLt p w))
-  where
-    outside : (p : ℕ) → w ≤ p → Dec (source d c p < w) → w ≤ source d c p
-    outside p k (no n) = omega arith
-    outside p k (yes q) = absurd (omega (arith, source-source (f .positive) c p, source-below f c (source d c p) q))
+-- the same of either network
 
-    same : (p : ℕ) → Dec (p < w) → bit x (source d c p) ≡ bit (stage w d c x) p
-    same p (yes k) = sym (bit-stage w d c x p k)
-    same p (no n) =
-        bit-above (source d c p) h (outside p (omega arith) (decLt (source d c p) w))
-        ∙ sym (bit-above {w = w} p (stage-lt w d c x) (omega arith))
+pub distances-fit : (b : Bool) (n : ℕ) {L : ℕ} → n ≤ L → AllFit (2 ^ L) (distances b n)
+distances-fit true = rising-fit
+distances-fit false = falling-fit
 
-pub fit-at : (w : ℕ) (ds : List ℕ) → AllFit w ds → (i : ℕ) → i < length ds → Fits w (getD ds i 0)
-unfolding AllFit
-fit-at w [] f i h = absurd (omega arith)
-fit-at w (d ∷ ds) f zero h = f .0
-fit-at w (d ∷ ds) f (suc i) h = fit-at w ds (f .1) i (omega arith)
+pub length-distances : (b : Bool) (n : ℕ) → length (distances b n) ≡ n
+length-distances true = length-rising
+length-distances false = length-falling
+
+pub reverse-distances : (b : Bool) (n : ℕ) → reverse (distances b n) ≡ distances (not b) n
+reverse-distances true = reverse-rising
+reverse-distances false = reverse-falling
+
+-- Stages of whole blocks at a greater width: they send the bits below w as at width w, and leave the zeros above.
+
+module _ {w v : ℕ} (l : w ≤ v) where
+  stage-below : {d : ℕ} → Fits w d → (c x : ℕ) → stage v d c x % 2 ^ w ≡ stage w d c (x % 2 ^ w)
+  stage-below {d} f c x =
+      ext w (mod-lt (stage v d c x) (pow-pos w)) (stage-lt w d c (x % 2 ^ w))
+      (λ p h. bit-mod (stage v d c x) w p h
+      ∙ bit-stage v d c x p (omega arith)
+      ∙ sym (bit-stage w d c (x % 2 ^ w) p h ∙ bit-mod x w (source d c p) (source-below f c p h)))
+
+  pub travel-below : (ds cs : List ℕ) → AllFit w ds → (x : ℕ) → travel v ds cs x % 2 ^ w ≡ travel w ds cs (x % 2 ^ w)
+  unfolding travel AllFit
+  travel-below [] cs f x = refl
+  travel-below (d ∷ ds) [] f x = refl
+  travel-below (d ∷ ds) (c ∷ cs) f x = travel-below ds cs (f .1) (stage v d c x) ∙ ap (travel w ds cs) (stage-below (f .0) c x)
+
+  stage-wider : {d : ℕ} → Fits w d → (c : ℕ) {x : ℕ} → x < 2 ^ w → stage v d c x ≡ stage w d c x
+  stage-wider {d} f c {x} h =
+      ext v (stage-lt v d c x) (omega (arith, stage-lt w d c x, pow-mono l)) (λ p k. bit-stage v d c x p k ∙ same p (decLt p w))
+    where
+      outside : (p : ℕ) → w ≤ p → Dec (source d c p < w) → w ≤ source d c p
+      outside p k (no n) = omega arith
+      outside p k (yes q) = absurd (omega (arith, source-source (f .positive) c p, source-below f c (source d c p) q))
+
+      same : (p : ℕ) → Dec (p < w) → bit x (source d c p) ≡ bit (stage w d c x) p
+      same p (yes k) = sym (bit-stage w d c x p k)
+      same p (no n) =
+          bit-above (source d c p) h (outside p (omega arith) (decLt (source d c p) w))
+          ∙ sym (bit-above {w = w} p (stage-lt w d c x) (omega arith))
+
+  pub travel-wider : (ds cs : List ℕ) → AllFit w ds → {x : ℕ} → x < 2 ^ w → travel v ds cs x ≡ travel w ds cs x
+  unfolding travel AllFit
+  travel-wider [] cs f h = refl
+  travel-wider (d ∷ ds) [] f h = refl
+  travel-wider (d ∷ ds) (c ∷ cs) f {x} h =
+      ap (travel v ds cs) (stage-wider (f .0) c h) ∙ travel-wider ds cs (f .1) (stage-lt w d c x)

@@ -42,3 +42,7 @@ butterflyOf L cs x = travel (2 ^ L) (falling L) cs x
 
 unfoldable pub inverseOf : ℕ → List ℕ → ℕ → ℕ
 inverseOf L cs x = travel (2 ^ L) (rising L) cs x
+
+-- "A fresh unit's kind 1 reverses the word": the word of width w whose bit i is bit w - 1 - i of x
+unfoldable pub reversedWord : ℕ → ℕ → ℕ
+reversedWord w x = ofBits w (λ i. bit x (w - 1 - i))

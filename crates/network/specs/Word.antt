@@ -1,6 +1,7 @@
 -- The word forms of a stage, which the code computes: control bits spread to the lower places of its pairs, and pairs exchanged all at once.
--- Of the calls, only a prepared network cites them; `butterfly-prepared-same` and `inverse-prepared-same` say that it is the network. Assumes nothing.
-use Prim.Native.Nat.{ℕ, _+_, _-_, _*_, _/_, _%_, _^_}
+-- Of the calls, only a prepared network cites them; `butterfly-prepared-same`, `butterfly-prepared-below` and the two of the inverse say that it is the
+-- network. Assumes nothing.
+use Prim.Native.Nat.{ℕ, _-_, _*_, _/_, _%_, _^_}
 use mathlib.Core.Bool.{Bool, cond}
 use mathlib.Core.List.{List, [], _∷_, _++_, reverse}
 use lib.Bits.{bitAnd, bitXor}

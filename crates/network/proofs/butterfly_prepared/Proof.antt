@@ -1,12 +1,11 @@
 -- `network::butterfly_prepared` meets its contract. Assumes nothing.
-use mathlib.Core.Path.{_≡_, refl, sym, _∙_}
+use mathlib.Core.Path.{_≡_, refl, _∙_}
 use Prim.Native.Nat.{_-_, _≤_}
 use native.Mathlib.Omega.{arith}
 use lib.ListN.{drop}
 use Rattle.network.specs.Stage.{falling}
 use Rattle.network.specs.Word.{exchangesOf}
-use Rattle.network.proofs.Travel.{length-falling}
-use Rattle.network.proofs.SixSteps.{butterfly-turn, exchanges-end}
+use Rattle.network.proofs.SixSteps.{butterfly-turn}
 use borrow.Author.Needs.{needs}
 use Rattle.network.proofs.butterfly_prepared.Statement.{statement}
 use Rattle.network.proofs.butterfly_prepared.Tie as tie
@@ -42,10 +41,11 @@ loop-again c =
     (search needs, butterfly-turn (a .t1) (search needs) (l .index) (l .carried) (search needs) (c .exchange .ensures) ∙ l .inv .1)
 
 returns : tie.Need-returns Inv-loop μ-loop
+unfolding falling exchangesOf
 returns c =
     let l = c .before .loop in
-    let a = c .before .before .args in
-    sym (exchanges-end (falling 6) (drop (l .index) (a .t1)) (l .index) (l .carried) (omega (arith, length-falling 6))) ∙ l .inv .1
+    let e : l .index ≡ 6 = omega arith in
+    rw e at (l .inv .1)
 
 pub butterfly-prepared-spec : {M : Type 1} → statement M
 butterfly-prepared-spec =

@@ -4,7 +4,7 @@ use Prim.Native.Nat.{_-_, _≤_}
 use native.Mathlib.Omega.{arith}
 use Rattle.network.specs.Word.{byIndex}
 use Rattle.network.proofs.Filling.{filled, fill-turn, fill-whole}
-use Rattle.network.proofs.SixSteps.{length-index}
+use Rattle.network.proofs.Six.{length-index}
 use borrow.Author.Needs.{needs}
 use Rattle.network.proofs.by_index.Statement.{statement}
 use Rattle.network.proofs.by_index.Tie as tie
@@ -37,7 +37,7 @@ loop-again : tie.Need-loop-again Inv-loop μ-loop
 loop-again c =
     let l = c .before .before .loop in
     let a = c .before .before .before .args in
-    let n = length-index (a .rising) (a .log) (search needs) (a .stages) (search needs) in
+    let n = length-index (a .log) (search needs) (a .stages) (search needs) (a .rising) in
     (search needs, fill-turn 0 (byIndex (a .rising) (a .log) (a .stages)) (l .index) (search needs) (omega (arith, n)) (l .inv .1) (c .stage-in-table .ensures))
 
 returns : tie.Need-returns Inv-loop μ-loop
@@ -45,7 +45,7 @@ returns c =
     let l = c .before .loop in
     let a = c .before .before .args in
     l .inv .1 ∙ fill-whole 0 (byIndex (a .rising) (a .log) (a .stages)) (l .index) (omega arith)
-    (length-index (a .rising) (a .log) (search needs) (a .stages) (search needs))
+    (length-index (a .log) (search needs) (a .stages) (search needs) (a .rising))
 
 pub by-index-spec : {M : Type 1} → statement M
 by-index-spec =

@@ -1,5 +1,13 @@
 -- `network::inverse_64` meets its contract. Assumes nothing.
-use Rattle.network.proofs.Six.{whole-inverse}
+use mathlib.Core.Path.{_∙_}
+use mathlib.Core.Bool.{true}
+use mathlib.Core.List.{reverse}
+use native.Mathlib.Omega.{arith}
+use lib.ListN.{take}
+use Rattle.network.specs.Stage.{inverseOf}
+use Rattle.network.specs.Word.{travelOf}
+use Rattle.network.proofs.Filling.{length-reversed}
+use Rattle.network.proofs.Six.{sent, six-whole}
 use borrow.Author.Needs.{needs}
 use Rattle.network.proofs.inverse_64.Statement.{statement}
 use Rattle.network.proofs.inverse_64.Tie as tie
@@ -14,8 +22,11 @@ inverse-prepared-requires : tie.Need-inverse-prepared-requires
 inverse-prepared-requires c κs = search needs
 
 returns : tie.Need-returns
+unfolding inverseOf travelOf
 returns c =
-    whole-inverse (c .before .before .before .args .stages) (search needs) (search needs) (c .before .before .reversed .ensures) (c .before .prepare .ensures)
+    let a = c .before .before .before .args in
+    let n = length-reversed (a .stages) 6 (search needs) in
+    sent 6 (omega arith) (a .stages) (search needs) (search needs) true (c .before .before .reversed .ensures ∙ six-whole (reverse (take 6 (a .stages))) n) (c .before .prepare .ensures)
     (c .inverse-prepared .ensures)
 
 pub inverse-64-spec : {M : Type 1} → statement M

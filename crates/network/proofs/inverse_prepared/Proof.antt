@@ -1,25 +1,27 @@
 -- `network::inverse_prepared` meets its contract. Assumes nothing.
-use mathlib.Core.Path.{_≡_, refl, sym, _∙_}
-use Prim.Native.Nat.{_-_, _≤_}
+use mathlib.Core.Path.{_≡_, _∙_}
+use Prim.Native.Nat.{_+_, _-_, _≤_}
 use native.Mathlib.Omega.{arith}
 use mathlib.Core.List.{reverse}
-use lib.ListN.{drop}
-use Rattle.network.specs.Stage.{rising}
+use lib.ListN.{take}
+use lib.Seq.{take-all}
+use Rattle.network.specs.Stage.{falling, rising}
 use Rattle.network.specs.Word.{exchangesOf}
-use Rattle.network.proofs.Travel.{length-rising}
-use Rattle.network.proofs.SixSteps.{inverse-turn, exchanges-end}
+use Rattle.network.proofs.SixSteps.{inverse-turn}
 use borrow.Author.Needs.{needs}
 use Rattle.network.proofs.inverse_prepared.Statement.{statement}
 use Rattle.network.proofs.inverse_prepared.Tie as tie
 
 abbrev Inv-loop : tie.InvT-loop
-Inv-loop word words carried₀ index₀ carried index = (index ≤ 6) × (exchangesOf (drop (6 - index) (rising 6)) (drop (6 - index) (reverse words)) carried ≡ exchangesOf (rising 6) (reverse words) word)
+Inv-loop word words carried₀ index₀ carried index =
+    (index ≤ 6) × (exchangesOf (reverse (take index (falling 6))) (reverse (take index words)) carried ≡ exchangesOf (rising 6) (reverse words) word)
 
 abbrev μ-loop : tie.MeasureT-loop
 μ-loop word words carried₀ index₀ carried index = index
 
 loop-holds : tie.Need-loop-holds Inv-loop μ-loop
-loop-holds c = (search needs, refl)
+unfolding falling rising
+loop-holds c = let a = c .args in (search needs, rw (take-all 6 (a .t1) (search needs)))
 
 sub-index : tie.Need-sub-index Inv-loop μ-loop
 sub-index c = search needs
@@ -40,13 +42,15 @@ loop-again : tie.Need-loop-again Inv-loop μ-loop
 loop-again c =
     let l = c .before .before .loop in
     let a = c .before .before .before .args in
-    (search needs, inverse-turn (a .t1) (search needs) (l .index) (l .carried) (search needs) (search needs) (c .exchange .ensures) ∙ l .inv .1)
+    let e : l .index - 1 + 1 ≡ l .index = omega arith in
+    (search needs, inverse-turn (a .t1) (search needs) (l .index - 1) (l .carried) (search needs) (c .exchange .ensures) ∙ rw e (l .inv .1))
 
 returns : tie.Need-returns Inv-loop μ-loop
+unfolding exchangesOf
 returns c =
     let l = c .before .loop in
-    let a = c .before .before .args in
-    sym (exchanges-end (rising 6) (drop (6 - l .index) (reverse (a .t1))) (6 - l .index) (l .carried) (omega (arith, length-rising 6))) ∙ l .inv .1
+    let e : l .index ≡ 0 = omega arith in
+    rw e at (l .inv .1)
 
 pub inverse-prepared-spec : {M : Type 1} → statement M
 inverse-prepared-spec =

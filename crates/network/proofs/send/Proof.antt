@@ -1,10 +1,6 @@
 -- `network::send` meets its contract. Assumes nothing.
-use mathlib.Core.Path.{_∙_, ap}
-use mathlib.Core.List.{List, reverse}
-use Prim.Native.Nat.{ℕ}
-use Rattle.network.specs.Stage.{falling, rising}
-use Rattle.network.specs.Word.{swapsAt, exchangesOf}
-use Rattle.network.proofs.Six.{six-butterfly, six-inverse}
+use mathlib.Core.Bool.{true, false}
+use Rattle.network.proofs.Six.{sent}
 use borrow.Author.Needs.{needs}
 use Rattle.network.proofs.send.Statement.{statement}
 use Rattle.network.proofs.send.Tie as tie
@@ -22,10 +18,8 @@ returns : tie.Need-returns
 returns c =
     let b = c .before .before in
     let a = b .before .before .args in
-    let w = b .prepare .ensures ∙ ap (swapsAt (falling 6)) (b .before .by-index .ensures) in
-    c .inverse-prepared .ensures
-    ∙ ap (λ (ws : List ℕ). exchangesOf (rising 6) (reverse ws) (a .word)) w
-    ∙ rw (c .before .if1 .taken) (six-inverse (a .log) (search needs) (a .stages) (search needs) (search needs))
+    let t = c .before .if1 .taken in
+    rw t (sent (a .log) (search needs) (a .stages) (search needs) (search needs) true (rw t at (b .before .by-index .ensures)) (b .prepare .ensures) (c .inverse-prepared .ensures))
 
 butterfly-prepared-requires : tie.Need-butterfly-prepared-requires
 butterfly-prepared-requires c κs = search needs
@@ -34,10 +28,8 @@ returns-2 : tie.Need-returns-2
 returns-2 c =
     let b = c .before .before in
     let a = b .before .before .args in
-    let w = b .prepare .ensures ∙ ap (swapsAt (falling 6)) (b .before .by-index .ensures) in
-    c .butterfly-prepared .ensures
-    ∙ ap (λ (ws : List ℕ). exchangesOf (falling 6) ws (a .word)) w
-    ∙ rw (c .before .if1 .left) (six-butterfly (a .log) (search needs) (a .stages) (search needs) (search needs))
+    let t = c .before .if1 .left in
+    rw t (sent (a .log) (search needs) (a .stages) (search needs) (search needs) false (rw t at (b .before .by-index .ensures)) (b .prepare .ensures) (c .butterfly-prepared .ensures))
 
 pub send-spec : {M : Type 1} → statement M
 send-spec =

@@ -22,71 +22,47 @@ loop-holds c =
     let e : 0 ≡ c .args .distance * 0 = omega arith in
     (search needs, ap (λ (n : ℕ). ofBits n (controlAt (c .args .distance) (c .args .mask))) e)
 
+-- what keeps the numbers of a turn small
+small : (c : tie.In-loop Inv-loop μ-loop)
+    → let d = c .before .before .args .distance in let j = c .before .loop .block in (d * (j + 1) ≤ 32) × (j < 32) × (d ≤ 32)
+small c =
+    let a = c .before .before .args in block-small (a .distance) (c .before .loop .block) (a .blocks) (search needs) (search needs) (search needs)
+
 mul-below : tie.Need-mul-below Inv-loop μ-loop
-mul-below c =
-    let l = c .before .loop in
-    let a = c .before .before .args in
-    let z = block-small (a .distance) (l .block) (a .blocks) (search needs) (search needs) (search needs) in
-    omega (arith, z)
+mul-below c = omega (arith, small c)
 
 mul-below-2 : tie.Need-mul-below-2 Inv-loop μ-loop
-mul-below-2 c =
-    let l = c .before .loop in
-    let a = c .before .before .args in
-    let z = block-small (a .distance) (l .block) (a .blocks) (search needs) (search needs) (search needs) in
-    omega (arith, z)
+mul-below-2 c = omega (arith, small c)
 
 add-below : tie.Need-add-below Inv-loop μ-loop
-add-below c =
-    let l = c .before .loop in
-    let a = c .before .before .args in
-    let z = block-small (a .distance) (l .block) (a .blocks) (search needs) (search needs) (search needs) in
-    omega (arith, z)
+add-below c = omega (arith, small c)
 
 shl-below : tie.Need-shl-below Inv-loop μ-loop
-shl-below c =
-    let l = c .before .loop in
-    let a = c .before .before .args in
-    let z = block-small (a .distance) (l .block) (a .blocks) (search needs) (search needs) (search needs) in
-    omega (arith, z)
+shl-below c = omega (arith, small c)
 
 rem-below : tie.Need-rem-below Inv-loop μ-loop
 rem-below c =
-    let l = c .before .loop in
-    let a = c .before .before .args in
-    let z = block-small (a .distance) (l .block) (a .blocks) (search needs) (search needs) (search needs) in
-    let p : 2 * l .block * a .distance + a .distance < 64 = omega (arith, z) in
-    rw (shl-one (2 * l .block * a .distance + a .distance) p) (pow-pos (2 * l .block * a .distance + a .distance))
+    let d = c .before .before .args .distance in
+    let n = 2 * c .before .loop .block * d + d in
+    rw (shl-one n (omega (arith, small c))) (pow-pos n)
 
 count-requires : tie.Need-count-requires Inv-loop μ-loop
 count-requires c κs = search needs
 
 turned-bits-requires : tie.Need-turned-bits-requires Inv-loop μ-loop
-turned-bits-requires c κs =
-    let l = c .before .before .loop in
-    let a = c .before .before .before .args in
-    let z = block-small (a .distance) (l .block) (a .blocks) (search needs) (search needs) (search needs) in
-    omega (arith, z)
+turned-bits-requires c κs = omega (arith, small (c .before))
 
 mul-out : tie.Need-mul-out Inv-loop μ-loop
-mul-out c =
-    let l = c .before .before .before .loop in
-    let a = c .before .before .before .before .args in
-    let z = block-small (a .distance) (l .block) (a .blocks) (search needs) (search needs) (search needs) in
-    omega (arith, z)
+mul-out c = omega (arith, small (c .before .before))
 
 shl-out : tie.Need-shl-out Inv-loop μ-loop
-shl-out c =
-    let l = c .before .before .before .loop in
-    let a = c .before .before .before .before .args in
-    let z = block-small (a .distance) (l .block) (a .blocks) (search needs) (search needs) (search needs) in
-    omega (arith, z)
+shl-out c = omega (arith, small (c .before .before))
 
 add-out : tie.Need-add-out Inv-loop μ-loop
 add-out c =
     let l = c .before .before .before .loop in
     let a = c .before .before .before .before .args in
-    let z = block-small (a .distance) (l .block) (a .blocks) (search needs) (search needs) (search needs) in
+    let z = small (c .before .before) in
     let e = stage-turn (a .distance) (a .mask) (l .block) (search needs) (z .0) (l .inv .1) (c .before .count .ensures) (c .turned-bits .ensures) in
     record { fits = omega (arith, e, stage-fits (a .distance) (a .mask) (l .block) (search needs) (z .0)) }
 
@@ -100,8 +76,7 @@ loop-again : tie.Need-loop-again Inv-loop μ-loop
 loop-again c =
     let l = c .before .before .before .loop in
     let a = c .before .before .before .before .args in
-    let z = block-small (a .distance) (l .block) (a .blocks) (search needs) (search needs) (search needs) in
-    (search needs, stage-turn (a .distance) (a .mask) (l .block) (search needs) (z .0) (l .inv .1) (c .before .count .ensures) (c .turned-bits .ensures))
+    (search needs, stage-turn (a .distance) (a .mask) (l .block) (search needs) (small (c .before .before) .0) (l .inv .1) (c .before .count .ensures) (c .turned-bits .ensures))
 
 returns : tie.Need-returns Inv-loop μ-loop
 returns c =
