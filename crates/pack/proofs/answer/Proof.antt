@@ -17,7 +17,7 @@ returns c =
 sub-t8 : tie.Need-sub-t8
 sub-t8 c =
     let a = c .before .before .args in
-    within (a .size) (a .a) (a .b) (a .own) (a .other) (sym (c .before .refusal .ensures) ∙ c .if1 .left) .order
+    within (a .size) (a .a) (a .b) (a .own) (a .other) (sym (c .before .refusal .ensures) ∙ c .if1 .left) .start
 
 mul-t10 : tie.Need-mul-t10
 mul-t10 c =

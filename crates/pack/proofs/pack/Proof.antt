@@ -36,10 +36,10 @@ mul-write-fields : tie.Need-mul-write-fields
 mul-write-fields c = omega (arith, allowed c)
 
 sub-write-fields : tie.Need-sub-write-fields
-sub-write-fields c = allowed c .order
+sub-write-fields c = allowed c .start
 
 part-write-fields-start : tie.Need-part-write-fields-start
-part-write-fields-start c = allowed c .order
+part-write-fields-start c = allowed c .start
 
 part-write-fields-end : tie.Need-part-write-fields-end
 part-write-fields-end c = allowed c .end
@@ -48,7 +48,7 @@ write-fields-requires : tie.Need-write-fields-requires
 write-fields-requires c κs =
     let e = c .before .before in
     let a = e .before .before .before .before .before .before .args in
-    cut-room (a .a) (a .b) (a .words .now) (allowed e .order) (allowed e .end) (sizeOf (a .mask)) (allowed e .room)
+    cut-room (a .a) (a .b) (a .words .now) (allowed e .start) (allowed e .end) (sizeOf (a .mask)) (allowed e .room)
 
 same-length : tie.Need-same-length
 same-length c = search needs

@@ -36,10 +36,10 @@ mul-read-fields : tie.Need-mul-read-fields
 mul-read-fields c = omega (arith, allowed c)
 
 sub-read-fields : tie.Need-sub-read-fields
-sub-read-fields c = allowed c .order
+sub-read-fields c = allowed c .start
 
 part-read-fields-start : tie.Need-part-read-fields-start
-part-read-fields-start c = allowed c .order
+part-read-fields-start c = allowed c .start
 
 part-read-fields-end : tie.Need-part-read-fields-end
 part-read-fields-end c = allowed c .end
@@ -48,7 +48,7 @@ read-fields-requires : tie.Need-read-fields-requires
 read-fields-requires c κs =
     let e = c .before in
     let a = e .before .before .before .before .before .before .args in
-    cut-room (a .a) (a .b) (a .out .now) (allowed e .order) (allowed e .end) (sizeOf (a .mask)) (allowed e .room)
+    cut-room (a .a) (a .b) (a .out .now) (allowed e .start) (allowed e .end) (sizeOf (a .mask)) (allowed e .room)
 
 same-length : tie.Need-same-length
 same-length c = search needs
@@ -61,7 +61,7 @@ returns-2 c =
     carried-out (sizeOf (a .mask)) (a .a) (a .b) (length (a .out .now)) (length (a .packed .now))
     (k .count .ensures) (e .before .before .answer .ensures)
     (unpackInto (a .mask) (a .packed .now) (a .a) (a .b) (a .out .now)) (a .out .now) (e .if1 .left)
-    (cut-filled (a .a) (a .b) (a .out .now) (allowed e .order) (allowed e .end) (a .mask) (a .packed .now) (c .before .before .read-fields .ensures))
+    (cut-filled (a .a) (a .b) (a .out .now) (allowed e .start) (allowed e .end) (a .mask) (a .packed .now) (c .before .before .read-fields .ensures))
 
 pub unpack-spec : {M : Type 1} → statement M
 unpack-spec =
