@@ -17,7 +17,7 @@ use Rattle.network.proofs.Filling.{map-at}
 use Rattle.pack.specs.declared.Packed.{Packed}
 use Rattle.pack.specs.Fields.{upTo, sizeOf, needed, cut, fieldsOf, streamBit, wordAt, packInto, packedBit, fieldAt, scatteredAt, unpackInto}
 use Rattle.pack.specs.Calls.{fieldsConditions, fieldsRefusal, packAnswer, packedOut, unpackAnswer, unpackedOut}
-use Rattle.pack.proofs.FilledLists.{length-upTo, getD-upTo, upTo-same, length-filled}
+use Rattle.pack.proofs.FilledLists.{length-upTo, getD-upTo, upTo-same, length-overwritten}
 use Rattle.pack.proofs.Stream.{ofBits-same}
 use Rattle.pack.proofs.Reading.{bit-packed}
 use Rattle.pack.proofs.Turns.{stream-word, stream-end, next-field}
@@ -156,7 +156,7 @@ module _ (m : ℕ) (hm : m < 2 ^ 64) (ws out : List ℕ) (a b : ℕ) (h : packAn
       let w = limits-of in
       let s = wordAt (streamBit (sizeOf m) (fieldsOf m (cut a b ws))) in
       let r = cut-room a b ws (w .start) (w .end) (sizeOf m) (w .room) in
-      ap length packed-is ∙ length-filled s (needed (sizeOf m * length (cut a b ws))) out ∙ omega arith
+      ap length packed-is ∙ length-overwritten s (needed (sizeOf m * length (cut a b ws))) out ∙ omega arith
 
   pub calls-unpack-pack : (ys : List ℕ) → b ≤ length ys → length ys ≤ 2048
       → (unpackAnswer m (packedOut m ws a b out) a b ys ≡ record { refusal = 0; bits = sizeOf m * (b - a) })

@@ -5,8 +5,8 @@ use native.Mathlib.Omega.{arith}
 use borrow.Author.Needs.{needs}
 use lib.ListN.{length, length-set}
 use Rattle.bits.proofs.Rank.{rank-le}
-use Rattle.pack.specs.Fields.{sizeOf, scatteredAt}
-use Rattle.pack.specs.Cursor.{filled, Awaits}
+use Rattle.pack.specs.Fields.{sizeOf, scatteredAt, overwritten}
+use Rattle.pack.specs.Cursor.{Awaits}
 use Rattle.pack.proofs.FilledLists.{fill-none, fill-next, fill-all}
 use Rattle.pack.proofs.Turns.{unpack-starts, unpack-room, unpack-turn, unpack-field}
 use Rattle.pack.proofs.read_fields.Statement.{statement}
@@ -14,7 +14,7 @@ use Rattle.pack.proofs.read_fields.Tie as tie
 
 abbrev Inv-loop : tie.InvT-loop
 Inv-loop mask packed out₀ size swaps cursor₀ i₀ out cursor i = (i ≤ length out₀) × (length out ≡ length out₀) × Awaits packed (sizeOf mask * i) cursor
-    × (out ≡ filled i (scatteredAt mask packed) out₀)
+    × (out ≡ overwritten i (scatteredAt mask packed) out₀)
 
 abbrev μ-loop : tie.MeasureT-loop
 μ-loop mask packed out₀ size swaps cursor₀ i₀ out cursor i = length out₀ - i
