@@ -1,11 +1,11 @@
 -- What the calls' answers come to, by the tests that the code makes. Assumes nothing.
 use mathlib.Core.Path.{_≡_, refl, sym, _∙_, ap, subst}
-use mathlib.Core.Bool.{Bool, true, false, cond, _||_}
-use mathlib.Core.List.{List, [], _∷_, _++_}
+use mathlib.Core.Bool.{Bool, true, false, cond}
+use mathlib.Core.List.{List, _++_}
 use Prim.Native.Nat.{ℕ, zero, suc, _-_, _*_, _≤_}
 use native.Mathlib.Omega.{arith}
 use native.Mathlib.Nat.{mul-le-mul-right}
-use lib.Dec.{eqb, ltb}
+use lib.Dec.{eqb}
 use lib.ListN.{length, take, drop, length-take, length-drop}
 use borrow.Rule.Slice.PartMut.{post-is}
 use borrow.Author.Tests.{eq-eqb, ne-eqb, ltb-false, le-ltb}
@@ -94,9 +94,12 @@ module _ (k a b own other : ℕ) where
     unfolding fieldsAnswer
     answer-done z = rw (← e, eq-eqb n 0 z)
 
+    pub inside : n ≡ 0 → Within k a b own other
+    inside z = within (sym e ∙ z)
+
     -- the count of bits fits
     pub bits-fit : k ≤ 64 → n ≡ 0 → k * (b - a) ≤ 131072
-    bits-fit h z = let w = within (sym e ∙ z) in bits-le h (omega (arith, w .end, w .own-limit))
+    bits-fit h z = let w = inside z in bits-le h (omega (arith, w .end, w .own-limit))
 
   -- what a call answers and leaves, from the answer for fields of as many bits as the code counted
   module _ {size : ℕ} {r : Packed} (s : size ≡ k) (e : r ≡ fieldsAnswer size a b own other) where
@@ -107,7 +110,7 @@ module _ (k a b own other : ℕ) where
     number = ap (λ (p : Packed). p .refusal) answered ∙ answer-refusal
 
     pub limits : r .refusal ≡ 0 → Within k a b own other
-    limits z = within (sym number ∙ z)
+    limits z = inside number z
 
     module _ (done out : List ℕ) where
       pub refused : (r .refusal ≡ 0 → ⊥) → (r ≡ fieldsAnswer k a b own other) × (out ≡ leftOf k a b own other done out)

@@ -14,9 +14,8 @@ log-of-requires c κs = search needs
 
 returns : tie.Need-returns
 returns c =
-    let a = c .before .before .args in
-    let e = not-width (a .width) (sym (c .before .log-of .ensures) ∙ c .if1 .taken) in
-    sym (refusal-by (a .width) (a .mask) (a .word) e refl refl)
+    let e = not-width (c .before .before .args .width) (sym (c .before .log-of .ensures) ∙ c .if1 .taken) in
+    sym (refusal-by _ _ _ e refl refl)
 
 is-within-requires : tie.Need-is-within-requires
 is-within-requires c κs = search needs
@@ -27,8 +26,7 @@ width c = is-width (c .before .before .args .width) (λ z. c .if1 .left (c .befo
 
 returns-2 : tie.Need-returns-2
 returns-2 c =
-    let a = c .before .before .before .before .args in
-    sym (refusal-by (a .width) (a .mask) (a .word) (width (c .before .before)) (sym (c .before .is-within .ensures) ∙ not-true _ (c .if2 .taken)) refl)
+    sym (refusal-by _ _ _ (width (c .before .before)) (sym (c .before .is-within .ensures) ∙ not-true _ (c .if2 .taken)) refl)
 
 is-within-requires-2 : tie.Need-is-within-requires-2
 is-within-requires-2 c κs = search needs
@@ -40,14 +38,12 @@ word c = sym (c .before .is-within .ensures) ∙ not-false _ (c .if2 .left)
 returns-3 : tie.Need-returns-3
 returns-3 c =
     let e = c .before .before in
-    let a = e .before .before .before .before .args in
-    sym (refusal-by (a .width) (a .mask) (a .word) (width (e .before .before)) (word e) (sym (c .before .is-within2 .ensures) ∙ not-true _ (c .if3 .taken)))
+    sym (refusal-by _ _ _ (width (e .before .before)) (word e) (sym (c .before .is-within2 .ensures) ∙ not-true _ (c .if3 .taken)))
 
 returns-4 : tie.Need-returns-4
 returns-4 c =
     let e = c .before .before in
-    let a = e .before .before .before .before .args in
-    sym (refusal-by (a .width) (a .mask) (a .word) (width (e .before .before)) (word e) (sym (c .before .is-within2 .ensures) ∙ not-false _ (c .if3 .left)))
+    sym (refusal-by _ _ _ (width (e .before .before)) (word e) (sym (c .before .is-within2 .ensures) ∙ not-false _ (c .if3 .left)))
 
 pub refusal-spec : {M : Type 1} → statement M
 refusal-spec = tie.close (tie.spec log-of-requires returns is-within-requires returns-2 is-within-requires-2 returns-3 returns-4)
