@@ -16,12 +16,12 @@ use Rattle.gather.proofs.Theorems.{scatter-gather}
 use Rattle.network.proofs.Filling.{map-at}
 use Rattle.pack.specs.declared.Packed.{Packed}
 use Rattle.pack.specs.Fields.{upTo, sizeOf, needed, cut, fieldsOf, streamBit, wordAt, packInto, packedBit, fieldAt, scatteredAt, unpackInto}
-use Rattle.pack.specs.Calls.{fieldsConditions, fieldsRefusal, packAnswer, packedOut, unpackAnswer, unpackedOut}
+use Rattle.pack.specs.Calls.{fieldsConditions, packAnswer, packedOut, unpackAnswer, unpackedOut}
 use Rattle.pack.proofs.FilledLists.{length-upTo, getD-upTo, upTo-same, length-overwritten}
 use Rattle.pack.proofs.Stream.{ofBits-same}
 use Rattle.pack.proofs.Reading.{bit-packed}
 use Rattle.pack.proofs.Turns.{stream-word, stream-end, next-field}
-use Rattle.pack.proofs.FieldAnswers.{Within, carried-out, within, by-none, answer-done, answer-refusal, fields-lowest, answer-bits, length-cut, cut-room}
+use Rattle.pack.proofs.FieldAnswers.{Within, carried-out, limits, by-none, answer-done, answer-refusal, fields-lowest, answer-bits, length-cut, cut-room}
 
 -- Demand 1, of each call, with the words lent to it. Bits answered: as many as the mask marks, for each word from a up to b.
 module _ (m : ℕ) (first : List ℕ) (a b : ℕ) (out : List ℕ) where
@@ -139,11 +139,8 @@ unpack-pack m hm a b ws h l out ys =
 
 -- The same of the calls, with the answers: if pack is carried out, unpack of what it left, into words that b and the limit allow, is carried out too.
 module _ (m : ℕ) (hm : m < 2 ^ 64) (ws out : List ℕ) (a b : ℕ) (h : packAnswer m ws a b out .refusal ≡ 0) where
-  ok : fieldsRefusal (sizeOf m) a b (length ws) (length out) ≡ 0
-  ok = sym (answer-refusal (sizeOf m) a b (length ws) (length out)) ∙ h
-
-  limits-of : Within (sizeOf m) a b (length ws) (length out)
-  limits-of = within (sizeOf m) a b (length ws) (length out) ok
+  allowed : Within (sizeOf m) a b (length ws) (length out)
+  allowed = limits (sizeOf m) a b (length ws) (length out) refl refl h
 
   packed-is : packedOut m ws a b out ≡ packInto m (cut a b ws) out
   packed-is =
@@ -153,7 +150,7 @@ module _ (m : ℕ) (hm : m < 2 ^ 64) (ws out : List ℕ) (a b : ℕ) (h : packAn
   length-packed : length (packedOut m ws a b out) ≡ length out
   unfolding packInto
   length-packed =
-      let w = limits-of in
+      let w = allowed in
       let s = wordAt (streamBit (sizeOf m) (fieldsOf m (cut a b ws))) in
       let r = cut-room a b ws (w .start) (w .end) (sizeOf m) (w .room) in
       ap length packed-is ∙ length-overwritten s (needed (sizeOf m * length (cut a b ws))) out ∙ omega arith
@@ -162,14 +159,17 @@ module _ (m : ℕ) (hm : m < 2 ^ 64) (ws out : List ℕ) (a b : ℕ) (h : packAn
       → (unpackAnswer m (packedOut m ws a b out) a b ys ≡ record { refusal = 0; bits = sizeOf m * (b - a) })
       × (unpackedOut m (packedOut m ws a b out) a b ys ≡ take a ys ++ (map (λ x. bitAnd x m) (cut a b ws) ++ drop b ys))
   calls-unpack-pack ys l u =
-      let w = limits-of in
+      let w = allowed in
       let ps = packedOut m ws a b out in
-      let z : fieldsRefusal (sizeOf m) a b (length ys) (length ps) ≡ 0 =
-      sym (by-none (sizeOf m) a b (length ys) (length ps)
-      (record { start = w .start; end = l; own-limit = u; other-limit = omega (arith, length-packed, w .other-limit); room = omega (arith, length-packed, w .room) }))
+      let z =
+      by-none (sizeOf m) a b (length ys) (length ps)
+      (record { start = w .start; end = l; own-limit = u; other-limit = omega (arith, length-packed, w .other-limit); room = omega (arith, length-packed, w .room) })
       in
-      let done = carried-out (sizeOf m) a b (length ys) (length ps) refl refl (unpackInto m ps a b ys) ys (answer-refusal (sizeOf m) a b (length ys) (length ps) ∙ z) refl in (
-        sym (answer-done (sizeOf m) a b (length ys) (length ps) (sym z) refl),
+      let done =
+      carried-out (sizeOf m) a b (length ys) (length ps) refl refl (unpackInto m ps a b ys) ys
+      (answer-refusal (sizeOf m) a b (length ys) (length ps) ∙ sym z) refl
+      in (
+        sym (answer-done (sizeOf m) a b (length ys) (length ps) z refl),
         sym (done .1)
             ∙ ap (λ (qs : List ℕ). unpackInto m qs a b ys) packed-is
             ∙ unpack-pack m hm a b ws (w .start) (w .end) out ys,
