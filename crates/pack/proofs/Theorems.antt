@@ -15,7 +15,7 @@ use Rattle.gather.specs.Gather.{gatherOf, scatterOf}
 use Rattle.gather.proofs.Theorems.{scatter-gather}
 use Rattle.network.proofs.Filling.{map-at}
 use Rattle.pack.specs.declared.Packed.{Packed}
-use Rattle.pack.specs.Fields.{upTo, sizeOf, needed, cut, fieldsOf, streamBit, wordAt, packInto, packedBit, fieldAt, scatteredAt, unpackInto}
+use Rattle.pack.specs.Fields.{upTo, sizeOf, needed, cut, fieldsOf, streamOf, wordAt, packInto, packedBit, fieldAt, scatteredAt, unpackInto}
 use Rattle.pack.specs.Calls.{fieldsConditions, packAnswer, packedOut, unpackAnswer, unpackedOut}
 use Rattle.pack.proofs.FilledLists.{length-upTo, getD-upTo, upTo-same, length-overwritten}
 use Rattle.pack.proofs.Stream.{ofBits-same}
@@ -46,10 +46,10 @@ positive (suc k) d h = omega arith
 -- bit n of the packed words is bit n of the stream
 
 module _ (m : ℕ) (ws out : List ℕ) where
-  packed-stream : (n : ℕ) → n < 64 * needed (sizeOf m * length ws) → packedBit (packInto m ws out) n ≡ streamBit (sizeOf m) (fieldsOf m ws) n % 2
+  packed-stream : (n : ℕ) → n < 64 * needed (sizeOf m * length ws) → packedBit (packInto m ws out) n ≡ streamOf m ws n % 2
   unfolding packInto packedBit wordAt
   packed-stream n h =
-      let s = streamBit (sizeOf m) (fieldsOf m ws) in
+      let s = streamOf m ws in
       let c = needed (sizeOf m * length ws) in
       let l : n / 64 < c = omega arith in
       let e : 64 * (n / 64) + n % 64 ≡ n = omega arith in
@@ -151,7 +151,7 @@ module _ (m : ℕ) (hm : m < 2 ^ 64) (ws out : List ℕ) (a b : ℕ) (h : packAn
   unfolding packInto
   length-packed =
       let w = allowed in
-      let s = wordAt (streamBit (sizeOf m) (fieldsOf m (cut a b ws))) in
+      let s = wordAt (streamOf m (cut a b ws)) in
       let r = cut-room a b ws (w .start) (w .end) (sizeOf m) (w .room) in
       ap length packed-is ∙ length-overwritten s (needed (sizeOf m * length (cut a b ws))) out ∙ omega arith
 

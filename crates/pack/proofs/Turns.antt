@@ -14,7 +14,7 @@ use Rattle.gather.specs.Gather.{gatherOf, scatterOf}
 use Rattle.network.proofs.Filling.{map-at}
 use Rattle.pack.specs.declared.Cursor.{Cursor}
 use Rattle.pack.specs.declared.Taken.{Taken}
-use Rattle.pack.specs.Fields.{sizeOf, needed, fieldsOf, streamBit, wordAt, packInto, scatteredAt, overwritten}
+use Rattle.pack.specs.Fields.{sizeOf, needed, fieldsOf, streamBit, streamOf, wordAt, packInto, scatteredAt, overwritten}
 use Rattle.pack.specs.Cursor.{cursorStart, Holds, Puts, Awaits, Takes}
 use Rattle.pack.proofs.FilledLists.{length-overwritten, fill-none, fill-next}
 use Rattle.pack.proofs.Reading.{scatter-read}
@@ -44,10 +44,6 @@ pub next-field : (k i len : ℕ) → i < len → k * i + k ≤ k * len
 next-field k i len h = let l : i + 1 ≤ len = omega arith in omega (arith, mul-le-mul-left k l)
 
 -- Packing.
-
--- the stream of the fields of the words
-abbrev pub streamOf : ℕ → List ℕ → ℕ → ℕ
-streamOf m ws = streamBit (sizeOf m) (fieldsOf m ws)
 
 module _ (m : ℕ) (ws old : List ℕ) where
   abbrev stream : ℕ → ℕ

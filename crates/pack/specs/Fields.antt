@@ -37,6 +37,10 @@ fieldsOf m ws = map (gatherOf 64 m) ws
 unfoldable pub streamBit : ℕ → List ℕ → ℕ → ℕ
 streamBit k fs n = cond (ltb n (k * length fs)) (bit (getD fs (n / k) 0) (n % k)) 0
 
+-- the stream of the fields of the words
+abbrev pub streamOf : ℕ → List ℕ → ℕ → ℕ
+streamOf m ws = streamBit (sizeOf m) (fieldsOf m ws)
+
 -- ".. crossing into the next word where needed": bit n stands in word n / 64 at place n % 64, so this is word j of a stream s
 unfoldable pub wordAt : (ℕ → ℕ) → ℕ → ℕ
 wordAt s j = ofBits 64 (λ i. s (64 * j + i))
@@ -47,7 +51,7 @@ packedBit ps n = bit (getD ps (n / 64) 0) (n % 64)
 
 -- The words `out` after pack of the words ws. "Spare bits of the last word written become zero; words after it keep their values."
 unfoldable pub packInto : ℕ → List ℕ → List ℕ → List ℕ
-packInto m ws out = overwritten (needed (sizeOf m * length ws)) (wordAt (streamBit (sizeOf m) (fieldsOf m ws))) out
+packInto m ws out = overwritten (needed (sizeOf m * length ws)) (wordAt (streamOf m ws)) out
 
 -- "Unpack reads fields so laid from the first strip": field f of k bits
 unfoldable pub fieldAt : ℕ → List ℕ → ℕ → ℕ

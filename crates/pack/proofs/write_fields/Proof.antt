@@ -5,9 +5,9 @@ use native.Mathlib.Omega.{arith}
 use borrow.Author.Needs.{needs}
 use lib.ListN.{length, length-set}
 use Rattle.bits.proofs.Rank.{rank-le}
-use Rattle.pack.specs.Fields.{sizeOf}
+use Rattle.pack.specs.Fields.{sizeOf, streamOf}
 use Rattle.pack.specs.Cursor.{Holds}
-use Rattle.pack.proofs.Turns.{streamOf, pack-starts, pack-turn, pack-room, pack-whole, last-room, pack-last}
+use Rattle.pack.proofs.Turns.{pack-starts, pack-turn, pack-room, pack-whole, last-room, pack-last}
 use Rattle.pack.proofs.write_fields.Statement.{statement}
 use Rattle.pack.proofs.write_fields.Tie as tie
 
