@@ -18,7 +18,7 @@ returns-2 c = simp (le-ltb _ _ (c .before .if1 .left), lt-ltb _ _ (c .if2 .taken
 
 returns-3 : tie.Need-returns-3
 unfolding fieldsRefusal
-returns-3 c = simp (le-ltb _ _ (c .before .before .if1 .left), le-ltb _ _ (c .before .if2 .left), lt-ltb _ _ (c .if3 .taken))
+returns-3 c = simp (le-ltb _ _ (c .before .before .if1 .left), le-ltb _ _ (c .before .if2 .left), lt-ltb 2048 _ (c .if3 .taken))
 
 returns-4 : tie.Need-returns-4
 unfolding fieldsRefusal
@@ -26,8 +26,8 @@ returns-4 c =
     simp (
       le-ltb _ _ (c .before .before .before .if1 .left),
       le-ltb _ _ (c .before .before .if2 .left),
-      le-ltb _ _ (c .before .if3 .left),
-      lt-ltb _ _ (c .if4 .taken),
+      le-ltb 2048 _ (c .before .if3 .left),
+      lt-ltb 2048 _ (c .if4 .taken),
     )
 
 -- as many bits as are asked for fit
@@ -46,8 +46,8 @@ returns-5 c =
     simp (
       le-ltb _ _ (c .before .before .before .before .if1 .left),
       le-ltb _ _ (c .before .before .before .if2 .left),
-      le-ltb _ _ (c .before .before .if3 .left),
-      le-ltb _ _ (c .before .if4 .left),
+      le-ltb 2048 _ (c .before .before .if3 .left),
+      le-ltb 2048 _ (c .before .if4 .left),
       lt-ltb _ _ (c .if5 .taken),
     )
 
