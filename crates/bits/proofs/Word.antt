@@ -135,9 +135,6 @@ bit-ofBits (suc w) f (suc i) l =
     ∙ ap (λ (n : ℕ). bit n i) (digits-div (ofBits w (λ j. f (suc j))) (mod-lt (f zero) (omega arith)))
     ∙ bit-ofBits w (λ j. f (suc j)) i (omega arith)
 
-pub bit-ofBits-above : (w : ℕ) (f : ℕ → ℕ) (i : ℕ) → w ≤ i → bit (ofBits w f) i ≡ 0
-bit-ofBits-above w f i l = bit-above i (ofBits-lt w f) l
-
 -- and, or, exclusive or, complement
 
 module _ (x y i : ℕ) where

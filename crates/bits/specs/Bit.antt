@@ -1,4 +1,4 @@
--- Words as their bits. A word is a natural number; a bit (paper 01: line) is a digit, 0 or 1, counted from 0 at the right.
+-- Words as their bits. A word is a natural number; a bit (paper 01: "line") is a digit, 0 or 1, counted from 0 at the right.
 -- Assumes nothing.
 use Prim.Native.Nat.{ℕ, zero, suc, _+_, _*_, _/_, _%_, _^_}
 use mathlib.Core.List.{List, [], _∷_, _++_}
@@ -25,7 +25,7 @@ unfoldable pub places : ℕ → ℕ → ℕ → List ℕ
 places v m zero = []
 places v m (suc w) = places v m w ++ cond (eqb (bit m w) v) (w ∷ []) []
 
--- paper 01: the marked lines, from the right, are m0, m1, ..
+-- "the marked lines, from the right, are m0, m1, .."
 abbrev pub marked : ℕ → ℕ → List ℕ
 marked m w = places 1 m w
 

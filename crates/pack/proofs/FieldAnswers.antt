@@ -1,16 +1,16 @@
 -- What the calls' answers come to, by the tests that the code makes. Assumes nothing.
-use mathlib.Core.Path.{_≡_, refl, sym, _∙_, ap}
-use mathlib.Core.Bool.{Bool, true, false, cond, _||_}
-use mathlib.Core.List.{List, [], _∷_, _++_}
-use Prim.Native.Nat.{ℕ, zero, suc, _-_, _*_, _<_, _≤_}
+use mathlib.Core.Path.{_≡_, refl, sym, _∙_, ap, subst}
+use mathlib.Core.Bool.{Bool, true, false, cond}
+use mathlib.Core.List.{List, _++_}
+use Prim.Native.Nat.{ℕ, zero, suc, _-_, _*_, _≤_}
 use native.Mathlib.Omega.{arith}
 use native.Mathlib.Nat.{mul-le-mul-right}
-use lib.Dec.{eqb, ltb}
+use lib.Dec.{eqb}
 use lib.ListN.{length, take, drop, length-take, length-drop}
 use borrow.Rule.Slice.PartMut.{post-is}
-use borrow.Author.Tests.{eq-eqb, ne-eqb, ltb-false, lt-ltb, le-ltb}
-use Rattle.bits.specs.Refusal.{lowest, IsLowest}
-use Rattle.bits.proofs.Refusals.{lowest-law}
+use borrow.Author.Tests.{eq-eqb, ne-eqb, ltb-false, le-ltb}
+use Rattle.bits.specs.Refusal.{lowest, AnswersLowest}
+use Rattle.bits.proofs.Refusals.{answers-lowest, none-applies, neither}
 use Rattle.pack.specs.declared.Packed.{Packed}
 use Rattle.pack.specs.Fields.{upTo, needed, cut, scatteredAt, unpackInto}
 use Rattle.pack.specs.Calls.{fieldsConditions, fieldsRefusal, fieldsAnswer, leftOf}
@@ -19,71 +19,55 @@ use Rattle.pack.specs.Calls.{fieldsConditions, fieldsRefusal, fieldsAnsw
 pub bits-le : {k d : ℕ} → k ≤ 64 → d ≤ 2048 → k * d ≤ 131072
 bits-le {k} {d} h l = omega (arith, mul-le-mul-right d h)
 
--- the refusal, from the outcomes of the tests: a above b, b above the length, either slice too long, the other one too short
-abbrev byTests : Bool → Bool → Bool → Bool → Bool → ℕ
-byTests p q r s t = lowest ((9, p || (q || (r || s))) ∷ (10, t) ∷ [])
-
 -- a call that is carried out is within the limits
 pub record Within (k a b own other : ℕ) : Type 0 where
-  pub order : a ≤ b
+  pub start : a ≤ b
   pub end : b ≤ own
   pub own-limit : own ≤ 2048
   pub other-limit : other ≤ 2048
   pub room : needed (k * (b - a)) ≤ other
 
+cond-pair : {A B : Type 0} (t : Bool) (x y : A) (u v : B) → cond {A = A × B} t (x, u) (y, v) ≡ (cond t x y, cond t u v)
+cond-pair true x y u v = refl
+cond-pair false x y u v = refl
+
 module _ (k a b own other : ℕ) where
-  refusal-by : (p q r s t : Bool) → ltb b a ≡ p → ltb own b ≡ q → ltb 2048 own ≡ r → ltb 2048 other ≡ s → ltb other (needed (k * (b - a))) ≡ t
-      → fieldsRefusal k a b own other ≡ byTests p q r s t
-  unfolding fieldsRefusal
-  refusal-by p q r s t e f g h i = rw (e, f, g, h, i)
-
-  -- demand 1, of pack and unpack
-  pub refusal-lowest : IsLowest (fieldsConditions k a b own other) (fieldsRefusal k a b own other)
-  unfolding fieldsRefusal
-  refusal-lowest = lowest-law (fieldsConditions k a b own other) (omega arith)
-
   pub within : fieldsRefusal k a b own other ≡ 0 → Within k a b own other
+  unfolding fieldsRefusal
   within e =
-      by-tests (ltb b a) (ltb own b) (ltb 2048 own) (ltb 2048 other) (ltb other (needed (k * (b - a)))) refl refl refl refl refl
-      (sym (refusal-by _ _ _ _ _ refl refl refl refl refl) ∙ e)
-    where
-      by-tests : (p q r s t : Bool) → ltb b a ≡ p → ltb own b ≡ q → ltb 2048 own ≡ r → ltb 2048 other ≡ s
-          → ltb other (needed (k * (b - a))) ≡ t → byTests p q r s t ≡ 0 → Within k a b own other
-      by-tests true q r s t e f g h i z = absurd (omega arith)
-      by-tests false true r s t e f g h i z = absurd (omega arith)
-      by-tests false false true s t e f g h i z = absurd (omega arith)
-      by-tests false false false true t e f g h i z = absurd (omega arith)
-      by-tests false false false false true e f g h i z = absurd (omega arith)
-      by-tests false false false false false e f g h i z = record {
-        order = ltb-false b a e;
-        end = ltb-false own b f;
-        own-limit = ltb-false 2048 own g;
-        other-limit = ltb-false 2048 other h;
-        room = ltb-false other (needed (k * (b - a))) i;
+      let n = none-applies (fieldsConditions k a b own other) (omega arith) e in
+      let o = neither _ _ (n .0) in
+      let p = neither _ _ (o .1) in
+      let q = neither _ _ (p .1) in
+      record {
+        start = ltb-false b a (o .0);
+        end = ltb-false own b (p .0);
+        own-limit = ltb-false 2048 own (q .0);
+        other-limit = ltb-false 2048 other (q .1);
+        room = ltb-false other (needed (k * (b - a))) (n .1 .0);
       }
 
-  -- the outcome, by the first test that applies
-  pub by-order : b < a → 9 ≡ fieldsRefusal k a b own other
-  by-order h = sym (refusal-by true _ _ _ _ (lt-ltb b a h) refl refl refl refl)
-
-  pub by-end : a ≤ b → own < b → 9 ≡ fieldsRefusal k a b own other
-  by-end h l = sym (refusal-by false true _ _ _ (le-ltb b a h) (lt-ltb own b l) refl refl refl)
-
-  pub by-own : a ≤ b → b ≤ own → 2048 < own → 9 ≡ fieldsRefusal k a b own other
-  by-own h l m = sym (refusal-by false false true _ _ (le-ltb b a h) (le-ltb own b l) (lt-ltb 2048 own m) refl refl)
-
-  module _ (h : a ≤ b) (l : b ≤ own) (m : own ≤ 2048) where
-    pub by-other : 2048 < other → 9 ≡ fieldsRefusal k a b own other
-    by-other n = sym (refusal-by false false false true _ (le-ltb b a h) (le-ltb own b l) (le-ltb 2048 own m) (lt-ltb 2048 other n) refl)
-
-    by-need : {t : Bool} → other ≤ 2048 → ltb other (needed (k * (b - a))) ≡ t → byTests false false false false t ≡ fieldsRefusal k a b own other
-    by-need n e = sym (refusal-by false false false false _ (le-ltb b a h) (le-ltb own b l) (le-ltb 2048 own m) (le-ltb 2048 other n) e)
-
-    pub by-short : other ≤ 2048 → other < needed (k * (b - a)) → 10 ≡ fieldsRefusal k a b own other
-    by-short n s = by-need n (lt-ltb other (needed (k * (b - a))) s)
-
   pub by-none : Within k a b own other → 0 ≡ fieldsRefusal k a b own other
-  by-none w = by-need (w .order) (w .end) (w .own-limit) (w .other-limit) (le-ltb other (needed (k * (b - a))) (w .room))
+  unfolding fieldsRefusal
+  by-none w =
+      simp (
+        le-ltb b a (w .start),
+        le-ltb own b (w .end),
+        le-ltb 2048 own (w .own-limit),
+        le-ltb 2048 other (w .other-limit),
+        le-ltb other (needed (k * (b - a))) (w .room),
+      )
+
+  -- demand 1, of the answer and of the words lent
+  pub fields-lowest : (done out : List ℕ)
+      → AnswersLowest {A = Packed × List ℕ} (fieldsConditions k a b own other) (λ r. r .0 .refusal) (λ n. (record { refusal = n; bits = 0 }, out))
+      (fieldsAnswer k a b own other, leftOf k a b own other done out)
+  unfolding fieldsAnswer leftOf fieldsRefusal
+  fields-lowest done out =
+      let cs = fieldsConditions k a b own other in
+      let none : ℕ → Packed × List ℕ = λ n. (record { refusal = n; bits = 0 }, out) in
+      subst (AnswersLowest cs (λ r. r .0 .refusal) none) (cond-pair (eqb (lowest cs) 0) _ _ done out)
+      (answers-lowest cs (omega arith) (λ r. r .0 .refusal) none (record { refusal = 0; bits = k * (b - a) }, done) refl (λ n. refl))
 
   -- the answer's first number is the refusal
   pub answer-refusal : fieldsAnswer k a b own other .refusal ≡ fieldsRefusal k a b own other
@@ -93,10 +77,6 @@ module _ (k a b own other : ℕ) where
       by-number : (r : ℕ) → cond {A = Packed} (eqb r 0) (record { refusal = 0; bits = k * (b - a) }) (record { refusal = r; bits = 0 }) .refusal ≡ r
       by-number zero = refl
       by-number (suc r) = rw (ne-eqb (suc r) 0 (λ e. omega arith))
-
-  -- demand 1, of the answer
-  pub answer-lowest : IsLowest (fieldsConditions k a b own other) (fieldsAnswer k a b own other .refusal)
-  answer-lowest = rw answer-refusal refusal-lowest
 
   -- bits answered: k times the number of fields
   pub answer-bits : fieldsAnswer k a b own other .refusal ≡ 0 → fieldsAnswer k a b own other .bits ≡ k * (b - a)
@@ -114,9 +94,12 @@ module _ (k a b own other : ℕ) where
     unfolding fieldsAnswer
     answer-done z = rw (← e, eq-eqb n 0 z)
 
+    pub inside : n ≡ 0 → Within k a b own other
+    inside z = within (sym e ∙ z)
+
     -- the count of bits fits
     pub bits-fit : k ≤ 64 → n ≡ 0 → k * (b - a) ≤ 131072
-    bits-fit h z = let w = within (sym e ∙ z) in bits-le h (omega (arith, w .end, w .own-limit))
+    bits-fit h z = let w = inside z in bits-le h (omega (arith, w .end, w .own-limit))
 
   -- what a call answers and leaves, from the answer for fields of as many bits as the code counted
   module _ {size : ℕ} {r : Packed} (s : size ≡ k) (e : r ≡ fieldsAnswer size a b own other) where
@@ -127,7 +110,7 @@ module _ (k a b own other : ℕ) where
     number = ap (λ (p : Packed). p .refusal) answered ∙ answer-refusal
 
     pub limits : r .refusal ≡ 0 → Within k a b own other
-    limits z = within (sym number ∙ z)
+    limits z = inside number z
 
     module _ (done out : List ℕ) where
       pub refused : (r .refusal ≡ 0 → ⊥) → (r ≡ fieldsAnswer k a b own other) × (out ≡ leftOf k a b own other done out)

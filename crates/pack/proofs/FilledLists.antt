@@ -8,8 +8,7 @@ use native.Mathlib.Nat.{not-suc-le-zero}
 use native.Mathlib.Numerals.{add-one}
 use lib.ListN.{length, getD, drop, set, length-append, length-drop, drop-of-length-le, List·getD-append}
 use lib.Seq.{drop-cons, set-at, getD-at}
-use Rattle.pack.specs.Fields.{upTo}
-use Rattle.pack.specs.Cursor.{filled}
+use Rattle.pack.specs.Fields.{upTo, overwritten}
 
 module _ (f : ℕ → ℕ) where
   pub length-upTo : (n : ℕ) → length (upTo n f) ≡ n
@@ -26,23 +25,24 @@ module _ (f : ℕ → ℕ) where
       by-cases (yes l) ih = List·getD-append (upTo n f) (f n ∷ []) 0 i (omega (arith, length-upTo n)) ∙ ih l
       by-cases (no m) ih = let e : i ≡ n = omega arith in rw e (getD-at (upTo n f) (f n) [] 0 n (length-upTo n))
 
-  pub length-filled : (j : ℕ) (old : List ℕ) → length (filled j f old) ≡ j + (length old - j)
-  length-filled j old = length-append (upTo j f) (drop j old) ∙ omega (arith, length-upTo j, length-drop j old)
+  pub length-overwritten : (j : ℕ) (old : List ℕ) → length (overwritten j f old) ≡ j + (length old - j)
+  length-overwritten j old = length-append (upTo j f) (drop j old) ∙ omega (arith, length-upTo j, length-drop j old)
 
-  pub fill-none : (old : List ℕ) → old ≡ filled 0 f old
+  pub fill-none : (old : List ℕ) → old ≡ overwritten 0 f old
   unfolding upTo
   fill-none old = refl
 
   -- one word more
-  pub fill-next : (j : ℕ) (old : List ℕ) {out : List ℕ} {v : ℕ} → j < length old → out ≡ filled j f old → v ≡ f j
-      → set out j v ≡ filled (j + 1) f old
+  pub fill-next : (j : ℕ) (old : List ℕ) {out : List ℕ} {v : ℕ} → j < length out → out ≡ overwritten j f old → v ≡ f j
+      → set out j v ≡ overwritten (j + 1) f old
   unfolding upTo
   fill-next j old {out} {v} h e q =
-      ap (λ (o : List ℕ). set o j v) (e ∙ ap (λ (l : List ℕ). upTo j f ++ l) (drop-cons old j 0 h))
+      let l : j < length old = omega (arith, length-overwritten j old, ap length e) in
+      ap (λ (o : List ℕ). set o j v) (e ∙ ap (λ (l : List ℕ). upTo j f ++ l) (drop-cons old j 0 l))
       ∙ set-at (upTo j f) (getD old j 0) (drop (suc j) old) v j (length-upTo j)
       ∙ rw (add-one j, q, append-assoc)
 
-  pub fill-all : (j : ℕ) (old : List ℕ) → length old ≤ j → filled j f old ≡ upTo j f
+  pub fill-all : (j : ℕ) (old : List ℕ) → length old ≤ j → overwritten j f old ≡ upTo j f
   fill-all j old h = ap (λ (l : List ℕ). upTo j f ++ l) (drop-of-length-le old h) ∙ append-nil (upTo j f)
 
 pub upTo-same : (n : ℕ) (f g : ℕ → ℕ) → ((i : ℕ) → i < n → f i ≡ g i) → upTo n f ≡ upTo n g

@@ -15,7 +15,7 @@ use Rattle.gather.proofs.Theorems.{bit-scatter}
 use Rattle.pack.specs.declared.Cursor.{Cursor}
 use Rattle.pack.specs.Fields.{sizeOf, packedBit, fieldAt, scatteredAt}
 use Rattle.pack.specs.Cursor.{Awaits, Reads}
-use Rattle.pack.proofs.Stream.{ofBits-same, ofBits-high, join, shr-two}
+use Rattle.pack.proofs.Stream.{ofBits-same, upper, join, shr-two}
 
 module _ (ps : List ℕ) where
   packed-mod-two : (n : ℕ) → packedBit ps n % 2 ≡ packedBit ps n
@@ -49,10 +49,8 @@ module _ (ps : List ℕ) where
           record {
             at = omega (arith, h .at);
             within = omega (arith, h .within);
-            bits = ap (λ (x : ℕ). x / 2 ^ size) (h .bits ∙ ap (λ (a : ℕ). ofBits a here) q)
-                ∙ ofBits-high size r here
-                ∙ ofBits-same r (λ i. here (size + i)) (λ i. packedBit ps (n + size + i))
-                (λ i _. let v : n + (size + i) ≡ n + size + i = omega arith in ap (packedBit ps) v);
+            bits = upper size r here (λ i. packedBit ps (n + size + i)) q (h .bits)
+                (λ i. let v : n + (size + i) ≡ n + size + i = omega arith in ap (packedBit ps) v);
           }
 
       pub take-low : Reads ps n size (c .pending)
@@ -78,10 +76,8 @@ module _ (ps : List ℕ) where
             at = omega (arith, h .at);
             within = omega arith;
             bits = shr-two x d (size - c .held - 1) (omega arith)
-                ∙ ap (λ (y : ℕ). y / 2 ^ d) (above ∙ ap (λ (a : ℕ). ofBits a (λ i. here (c .held + i))) q)
-                ∙ ofBits-high d r (λ i. here (c .held + i))
-                ∙ ofBits-same r (λ i. here (c .held + (d + i))) (λ i. packedBit ps (n + size + i))
-                (λ i _. let v : n + (c .held + (d + i)) ≡ n + size + i = omega arith in ap (packedBit ps) v);
+                ∙ upper d r (λ i. here (c .held + i)) (λ i. packedBit ps (n + size + i)) q above
+                (λ i. let v : n + (c .held + (d + i)) ≡ n + size + i = omega arith in ap (packedBit ps) v);
           }
 
       pub take-joined : Reads ps n size (bitOr (c .pending) (x * 2 ^ c .held % 2 ^ 64))

@@ -12,7 +12,7 @@ use Rattle.bits.proofs.Word.{ofBits-lt, ofBits-add}
 use Rattle.pack.specs.declared.Cursor.{Cursor}
 use Rattle.pack.specs.Fields.{wordAt}
 use Rattle.pack.specs.Cursor.{Holds}
-use Rattle.pack.proofs.FilledLists.{length-filled, fill-next}
+use Rattle.pack.proofs.FilledLists.{fill-next}
 
 -- words end to end
 
@@ -23,14 +23,10 @@ ofBits-same (suc w) f g e =
     let h = ofBits-same w (λ i. f (suc i)) (λ i. g (suc i)) (λ i l. e (suc i) (omega arith)) in
     omega (arith, h, e 0 (omega arith))
 
-module _ (a b : ℕ) (g : ℕ → ℕ) where
-  pub ofBits-low : ofBits (a + b) g % 2 ^ a ≡ ofBits a g
-  ofBits-low = ap (λ (n : ℕ). n % 2 ^ a) (ofBits-add a b g) ∙ low (ofBits b (λ i. g (a + i))) a (ofBits-lt a g)
+ofBits-low : (a b : ℕ) (g : ℕ → ℕ) → ofBits (a + b) g % 2 ^ a ≡ ofBits a g
+ofBits-low a b g = ap (λ (n : ℕ). n % 2 ^ a) (ofBits-add a b g) ∙ low (ofBits b (λ i. g (a + i))) a (ofBits-lt a g)
 
-  pub ofBits-high : ofBits (a + b) g / 2 ^ a ≡ ofBits b (λ i. g (a + i))
-  ofBits-high = ap (λ (n : ℕ). n / 2 ^ a) (ofBits-add a b g) ∙ high (ofBits b (λ i. g (a + i))) a (ofBits-lt a g)
-
-pub ofBits-fits : (a : ℕ) (g : ℕ → ℕ) → a ≤ 64 → ofBits a g % 2 ^ 64 ≡ ofBits a g
+ofBits-fits : (a : ℕ) (g : ℕ → ℕ) → a ≤ 64 → ofBits a g % 2 ^ 64 ≡ ofBits a g
 ofBits-fits a g h = mod-eq-of-lt (omega (arith, ofBits-lt a g, pow-mono h))
 
 module _ (x p h : ℕ) (l : p < 2 ^ h) where
@@ -49,6 +45,13 @@ pub join : (h c : ℕ) (g : ℕ → ℕ) → h ≤ 64 → bitOr (ofBits h g) (of
 join h c g u =
     let e : 64 - h + h ≡ 64 = omega arith in
     rw e at (or-shl (ofBits c (λ i. g (h + i))) (ofBits h g) h (64 - h) (ofBits-lt h g)) ∙ ap (λ (n : ℕ). n % 2 ^ 64) (sym (ofBits-add h c g))
+
+-- the bits from d up
+pub upper : (d r : ℕ) {w x : ℕ} (f g : ℕ → ℕ) → w ≡ d + r → x ≡ ofBits w f → ((i : ℕ) → f (d + i) ≡ g i) → x / 2 ^ d ≡ ofBits r g
+upper d r f g q e s =
+    ap (λ (x : ℕ). x / 2 ^ d) (e ∙ ap (λ (w : ℕ). ofBits w f) q ∙ ofBits-add d r f)
+    ∙ high (ofBits r (λ i. f (d + i))) d (ofBits-lt d f)
+    ∙ ofBits-same r (λ i. f (d + i)) g (λ i _. s i)
 
 -- the code's shift by d, 1 to 64, in two steps
 pub shr-two : (x d e : ℕ) → e + 1 ≡ d → x / 2 ^ 1 / 2 ^ e ≡ x / 2 ^ d
@@ -99,14 +102,12 @@ module _ (c : Cursor) (size field : ℕ) (s : ℕ → ℕ) (n : ℕ) (old : List
         in
         let rest : field / 2 ^ 1 / 2 ^ (63 - c .held) ≡ ofBits r (λ i. s (64 * (c .word + 1) + i)) =
         shr-two field d (63 - c .held) (omega (arith, h .within))
-        ∙ ap (λ (x : ℕ). x / 2 ^ d) (above ∙ ap (λ (a : ℕ). ofBits a (λ i. here (c .held + i))) q)
-        ∙ ofBits-high d r (λ i. here (c .held + i))
-        ∙ ofBits-same r (λ i. here (c .held + (d + i))) (λ i. s (64 * (c .word + 1) + i))
-        (λ i _. let v : 64 * c .word + (c .held + (d + i)) ≡ 64 * (c .word + 1) + i = omega (arith, h .within) in ap s v)
+        ∙ upper d r (λ i. here (c .held + i)) (λ i. s (64 * (c .word + 1) + i)) q above
+        (λ i. let v : 64 * c .word + (c .held + (d + i)) ≡ 64 * (c .word + 1) + i = omega (arith, h .within) in ap s v)
         in
         record {
           at = omega (arith, h .at, h .within);
           within = omega (arith, h .within, l);
           bits = rest;
-          words = fill-next (wordAt s) (c .word) old (omega (arith, length-filled (wordAt s) (c .word) old, ap length (h .words))) (h .words) full;
+          words = fill-next (wordAt s) (c .word) old k (h .words) full;
         }

@@ -1,34 +1,37 @@
 -- Theorems on pack and unpack: the refusals and the count of bits, the stream bit by bit, the round trip. Assumes nothing.
 use mathlib.Core.Path.{_≡_, refl, sym, _∙_, ap}
-use mathlib.Core.List.{List, [], _∷_, _++_, map}
+use mathlib.Core.List.{List, _++_, map}
 use Prim.Native.Nat.{ℕ, zero, suc, _+_, _-_, _*_, _/_, _%_, _^_, _<_, _≤_}
 use native.Mathlib.Omega.{arith}
 use native.Mathlib.Nat.{zero-mul, mod-lt, div-add-mod', div-lt-iff-lt-mul}
 use lib.Bits.{bitAnd}
 use lib.ListN.{length, getD, take, drop, length-map, List·getD-append}
 use lib.Seq.{ext-getD, getD-take, getD-drop}
-use Rattle.bits.specs.Bit.{bit, ofBits, rank, places, pick}
-use Rattle.bits.specs.Refusal.{IsLowest}
+use Rattle.bits.specs.Bit.{bit}
+use Rattle.bits.specs.Refusal.{AnswersLowest}
 use Rattle.bits.proofs.Word.{bit-mod-two, bit-ofBits, ofBits-lt, ext}
 use Rattle.bits.proofs.Places.{pick-marked-lt}
 use Rattle.gather.specs.Gather.{gatherOf, scatterOf}
 use Rattle.gather.proofs.Theorems.{scatter-gather}
 use Rattle.network.proofs.Filling.{map-at}
-use Rattle.pack.specs.Fields.{upTo, sizeOf, needed, cut, fieldsOf, streamBit, wordAt, packInto, packedBit, fieldAt, scatteredAt, unpackInto}
-use Rattle.pack.specs.Calls.{fieldsConditions, fieldsRefusal, fieldsAnswer, leftOf, packAnswer, packedOut, unpackAnswer, unpackedOut}
-use Rattle.pack.proofs.FilledLists.{length-upTo, getD-upTo, upTo-same, length-filled}
+use Rattle.pack.specs.declared.Packed.{Packed}
+use Rattle.pack.specs.Fields.{upTo, sizeOf, needed, cut, fieldsOf, streamOf, wordAt, packInto, packedBit, fieldAt, scatteredAt, unpackInto}
+use Rattle.pack.specs.Calls.{fieldsConditions, packAnswer, packedOut, unpackAnswer, unpackedOut}
+use Rattle.pack.proofs.FilledLists.{length-upTo, getD-upTo, upTo-same, length-overwritten}
 use Rattle.pack.proofs.Stream.{ofBits-same}
 use Rattle.pack.proofs.Reading.{bit-packed}
 use Rattle.pack.proofs.Turns.{stream-word, stream-end, next-field}
-use Rattle.pack.proofs.FieldAnswers.{Within, carried-out, within, by-none, answer-done, answer-refusal, answer-lowest, answer-bits, length-cut, cut-room}
+use Rattle.pack.proofs.FieldAnswers.{Within, carried-out, limits, by-none, answer-done, answer-refusal, fields-lowest, answer-bits, length-cut, cut-room}
 
--- Demand 1, of each call: the answer's first number is the lowest that applies. Bits answered: as many as the mask marks, for each word from a up to b.
+-- Demand 1, of each call, with the words lent to it. Bits answered: as many as the mask marks, for each word from a up to b.
 module _ (m : ℕ) (first : List ℕ) (a b : ℕ) (out : List ℕ) where
-  pub pack-refusal-lowest : IsLowest (fieldsConditions (sizeOf m) a b (length first) (length out)) (packAnswer m first a b out .refusal)
-  pack-refusal-lowest = answer-lowest (sizeOf m) a b (length first) (length out)
+  pub pack-lowest : AnswersLowest {A = Packed × List ℕ} (fieldsConditions (sizeOf m) a b (length first) (length out)) (λ r. r .0 .refusal)
+      (λ n. (record { refusal = n; bits = 0 }, out)) (packAnswer m first a b out, packedOut m first a b out)
+  pack-lowest = fields-lowest (sizeOf m) a b (length first) (length out) (packInto m (cut a b first) out) out
 
-  pub unpack-refusal-lowest : IsLowest (fieldsConditions (sizeOf m) a b (length out) (length first)) (unpackAnswer m first a b out .refusal)
-  unpack-refusal-lowest = answer-lowest (sizeOf m) a b (length out) (length first)
+  pub unpack-lowest : AnswersLowest {A = Packed × List ℕ} (fieldsConditions (sizeOf m) a b (length out) (length first)) (λ r. r .0 .refusal)
+      (λ n. (record { refusal = n; bits = 0 }, out)) (unpackAnswer m first a b out, unpackedOut m first a b out)
+  unpack-lowest = fields-lowest (sizeOf m) a b (length out) (length first) (unpackInto m first a b out) out
 
   pub pack-bits : packAnswer m first a b out .refusal ≡ 0 → packAnswer m first a b out .bits ≡ sizeOf m * (b - a)
   pack-bits = answer-bits (sizeOf m) a b (length first) (length out)
@@ -43,10 +46,10 @@ positive (suc k) d h = omega arith
 -- bit n of the packed words is bit n of the stream
 
 module _ (m : ℕ) (ws out : List ℕ) where
-  packed-stream : (n : ℕ) → n < 64 * needed (sizeOf m * length ws) → packedBit (packInto m ws out) n ≡ streamBit (sizeOf m) (fieldsOf m ws) n % 2
+  packed-stream : (n : ℕ) → n < 64 * needed (sizeOf m * length ws) → packedBit (packInto m ws out) n ≡ streamOf m ws n % 2
   unfolding packInto packedBit wordAt
   packed-stream n h =
-      let s = streamBit (sizeOf m) (fieldsOf m ws) in
+      let s = streamOf m ws in
       let c = needed (sizeOf m * length ws) in
       let l : n / 64 < c = omega arith in
       let e : 64 * (n / 64) + n % 64 ≡ n = omega arith in
@@ -136,11 +139,8 @@ unpack-pack m hm a b ws h l out ys =
 
 -- The same of the calls, with the answers: if pack is carried out, unpack of what it left, into words that b and the limit allow, is carried out too.
 module _ (m : ℕ) (hm : m < 2 ^ 64) (ws out : List ℕ) (a b : ℕ) (h : packAnswer m ws a b out .refusal ≡ 0) where
-  ok : fieldsRefusal (sizeOf m) a b (length ws) (length out) ≡ 0
-  ok = sym (answer-refusal (sizeOf m) a b (length ws) (length out)) ∙ h
-
-  limits-of : Within (sizeOf m) a b (length ws) (length out)
-  limits-of = within (sizeOf m) a b (length ws) (length out) ok
+  allowed : Within (sizeOf m) a b (length ws) (length out)
+  allowed = limits (sizeOf m) a b (length ws) (length out) refl refl h
 
   packed-is : packedOut m ws a b out ≡ packInto m (cut a b ws) out
   packed-is =
@@ -150,24 +150,27 @@ module _ (m : ℕ) (hm : m < 2 ^ 64) (ws out : List ℕ) (a b : ℕ) (h : packAn
   length-packed : length (packedOut m ws a b out) ≡ length out
   unfolding packInto
   length-packed =
-      let w = limits-of in
-      let s = wordAt (streamBit (sizeOf m) (fieldsOf m (cut a b ws))) in
-      let r = cut-room a b ws (w .order) (w .end) (sizeOf m) (w .room) in
-      ap length packed-is ∙ length-filled s (needed (sizeOf m * length (cut a b ws))) out ∙ omega arith
+      let w = allowed in
+      let s = wordAt (streamOf m (cut a b ws)) in
+      let r = cut-room a b ws (w .start) (w .end) (sizeOf m) (w .room) in
+      ap length packed-is ∙ length-overwritten s (needed (sizeOf m * length (cut a b ws))) out ∙ omega arith
 
   pub calls-unpack-pack : (ys : List ℕ) → b ≤ length ys → length ys ≤ 2048
       → (unpackAnswer m (packedOut m ws a b out) a b ys ≡ record { refusal = 0; bits = sizeOf m * (b - a) })
       × (unpackedOut m (packedOut m ws a b out) a b ys ≡ take a ys ++ (map (λ x. bitAnd x m) (cut a b ws) ++ drop b ys))
   calls-unpack-pack ys l u =
-      let w = limits-of in
+      let w = allowed in
       let ps = packedOut m ws a b out in
-      let z : fieldsRefusal (sizeOf m) a b (length ys) (length ps) ≡ 0 =
-      sym (by-none (sizeOf m) a b (length ys) (length ps)
-      (record { order = w .order; end = l; own-limit = u; other-limit = omega (arith, length-packed, w .other-limit); room = omega (arith, length-packed, w .room) }))
+      let z =
+      by-none (sizeOf m) a b (length ys) (length ps)
+      (record { start = w .start; end = l; own-limit = u; other-limit = omega (arith, length-packed, w .other-limit); room = omega (arith, length-packed, w .room) })
       in
-      let done = carried-out (sizeOf m) a b (length ys) (length ps) refl refl (unpackInto m ps a b ys) ys (answer-refusal (sizeOf m) a b (length ys) (length ps) ∙ z) refl in (
-        sym (answer-done (sizeOf m) a b (length ys) (length ps) (sym z) refl),
+      let done =
+      carried-out (sizeOf m) a b (length ys) (length ps) refl refl (unpackInto m ps a b ys) ys
+      (answer-refusal (sizeOf m) a b (length ys) (length ps) ∙ sym z) refl
+      in (
+        sym (answer-done (sizeOf m) a b (length ys) (length ps) z refl),
         sym (done .1)
             ∙ ap (λ (qs : List ℕ). unpackInto m qs a b ys) packed-is
-            ∙ unpack-pack m hm a b ws (w .order) (w .end) out ys,
+            ∙ unpack-pack m hm a b ws (w .start) (w .end) out ys,
       )

@@ -14,9 +14,9 @@ use Rattle.gather.specs.Gather.{gatherOf, scatterOf}
 use Rattle.network.proofs.Filling.{map-at}
 use Rattle.pack.specs.declared.Cursor.{Cursor}
 use Rattle.pack.specs.declared.Taken.{Taken}
-use Rattle.pack.specs.Fields.{sizeOf, needed, fieldsOf, streamBit, wordAt, packInto, scatteredAt}
-use Rattle.pack.specs.Cursor.{filled, cursorStart, Holds, Puts, Awaits, Takes}
-use Rattle.pack.proofs.FilledLists.{length-filled, fill-none, fill-next}
+use Rattle.pack.specs.Fields.{sizeOf, needed, fieldsOf, streamBit, streamOf, wordAt, packInto, scatteredAt, overwritten}
+use Rattle.pack.specs.Cursor.{cursorStart, Holds, Puts, Awaits, Takes}
+use Rattle.pack.proofs.FilledLists.{length-overwritten, fill-none, fill-next}
 use Rattle.pack.proofs.Reading.{scatter-read}
 
 -- the stream of a list of fields
@@ -44,10 +44,6 @@ pub next-field : (k i len : ℕ) → i < len → k * i + k ≤ k * len
 next-field k i len h = let l : i + 1 ≤ len = omega arith in omega (arith, mul-le-mul-left k l)
 
 -- Packing.
-
--- the stream of the fields of the words
-abbrev pub streamOf : ℕ → List ℕ → ℕ → ℕ
-streamOf m ws = streamBit (sizeOf m) (fieldsOf m ws)
 
 module _ (m : ℕ) (ws old : List ℕ) where
   abbrev stream : ℕ → ℕ
@@ -85,7 +81,7 @@ module _ (m : ℕ) (ws old : List ℕ) where
           arith,
           inv .at,
           next-field (sizeOf m) i (length ws) h,
-          length-filled (wordAt stream) (c .word) old,
+          length-overwritten (wordAt stream) (c .word) old,
           ap length (inv .words),
         )
 
@@ -95,10 +91,10 @@ module _ (m : ℕ) (ws old : List ℕ) where
       unfolding packInto
       pack-whole z =
           let n : c .word ≡ needed (sizeOf m * length ws) = omega (arith, inv .at) in
-          inv .words ∙ ap (λ (j : ℕ). filled j (wordAt stream) old) n
+          inv .words ∙ ap (λ (j : ℕ). overwritten j (wordAt stream) old) n
 
       pub last-room : (c .held ≡ 0 → ⊥) → c .word < length out
-      last-room z = omega (arith, inv .at, z, length-filled (wordAt stream) (c .word) old, ap length (inv .words))
+      last-room z = omega (arith, inv .at, z, length-overwritten (wordAt stream) (c .word) old, ap length (inv .words))
 
       -- the last word is filled up with zeros
       last-word : c .pending ≡ wordAt stream (c .word)
@@ -119,11 +115,9 @@ module _ (m : ℕ) (ws old : List ℕ) where
       pub pack-last : (c .held ≡ 0 → ⊥) → set out (c .word) (c .pending) ≡ packInto m ws old
       unfolding packInto
       pack-last z =
-          let l = last-room z in
           let n : c .word + 1 ≡ needed (sizeOf m * length ws) = omega (arith, inv .at, inv .within, z) in
-          fill-next (wordAt stream) (c .word) old
-          (omega (arith, length-filled (wordAt stream) (c .word) old, ap length (inv .words))) (inv .words) last-word
-          ∙ ap (λ (j : ℕ). filled j (wordAt stream) old) n
+          fill-next (wordAt stream) (c .word) old (last-room z) (inv .words) last-word
+          ∙ ap (λ (j : ℕ). overwritten j (wordAt stream) old) n
 
 -- Unpacking.
 

@@ -1,15 +1,14 @@
 -- Where a cursor stands in a stream of bits. Internal: no call's answer cites it. Assumes nothing.
 use mathlib.Core.Path.{_≡_}
-use mathlib.Core.List.{List, _++_}
+use mathlib.Core.List.{List}
 use Prim.Native.Nat.{ℕ, _+_, _*_, _<_}
-use lib.ListN.{drop}
 use Rattle.bits.specs.Bit.{bit, ofBits}
 use Rattle.network.specs.Stage.{falling}
 use Rattle.network.specs.Decoder.{decodeOf}
 use Rattle.network.specs.Word.{swapsAt}
 use Rattle.pack.specs.declared.Cursor.{Cursor}
 use Rattle.pack.specs.declared.Taken.{Taken}
-use Rattle.pack.specs.Fields.{upTo, wordAt, packedBit}
+use Rattle.pack.specs.Fields.{overwritten, wordAt, packedBit}
 
 -- the swaps of the six stages that the mask routes by
 unfoldable pub routesOf : ℕ → List ℕ
@@ -19,16 +18,12 @@ routesOf m = swapsAt (falling 6) (decodeOf 6 m)
 abbrev pub cursorStart : Cursor
 cursorStart = record { word = 0; held = 0; pending = 0 }
 
--- a list whose first j words are f 0, .., f (j - 1), the others as in `old`
-abbrev pub filled : ℕ → (ℕ → ℕ) → List ℕ → List ℕ
-filled j f old = upTo j f ++ drop j old
-
 -- The n first bits of the stream s are put: whole words are in `out`, the bits of the word begun are held in the cursor.
 pub record Holds (s : ℕ → ℕ) (n : ℕ) (c : Cursor) (old out : List ℕ) : Type 0 where
   pub at : 64 * c .word + c .held ≡ n
   pub within : c .held < 64
   pub bits : c .pending ≡ ofBits (c .held) (λ i. s (64 * c .word + i))
-  pub words : out ≡ filled (c .word) (wordAt s) old
+  pub words : out ≡ overwritten (c .word) (wordAt s) old
 
 -- Putting a field moves the cursor on: whatever the stream, if the field is its next `size` bits.
 pub record Puts (c : Cursor) (size field : ℕ) (before : List ℕ) (r : Cursor) (after : List ℕ) : Type 0 where

@@ -1,4 +1,4 @@
--- Packed fields of paper 01, 'Strips' (its strips are lists of words here, packed words where they hold fields). Assumes nothing.
+-- Packed fields of paper 01, 'Strips' (a "strip" is a list of words here). Assumes nothing.
 use Prim.Native.Nat.{ℕ, zero, suc, _+_, _-_, _*_, _/_, _%_}
 use mathlib.Core.Bool.{cond}
 use mathlib.Core.List.{List, [], _∷_, _++_, map}
@@ -11,6 +11,10 @@ use Rattle.gather.specs.Gather.{gatherOf, scatterOf}
 unfoldable pub upTo : ℕ → (ℕ → ℕ) → List ℕ
 upTo zero f = []
 upTo (suc n) f = upTo n f ++ (f n ∷ [])
+
+-- the words `old` with the first j replaced by f 0, .., f (j - 1)
+abbrev pub overwritten : ℕ → (ℕ → ℕ) → List ℕ → List ℕ
+overwritten j f old = upTo j f ++ drop j old
 
 -- k, how many bits a field of the mask has
 abbrev pub sizeOf : ℕ → ℕ
@@ -33,6 +37,10 @@ fieldsOf m ws = map (gatherOf 64 m) ws
 unfoldable pub streamBit : ℕ → List ℕ → ℕ → ℕ
 streamBit k fs n = cond (ltb n (k * length fs)) (bit (getD fs (n / k) 0) (n % k)) 0
 
+-- the stream of the fields of the words
+abbrev pub streamOf : ℕ → List ℕ → ℕ → ℕ
+streamOf m ws = streamBit (sizeOf m) (fieldsOf m ws)
+
 -- ".. crossing into the next word where needed": bit n stands in word n / 64 at place n % 64, so this is word j of a stream s
 unfoldable pub wordAt : (ℕ → ℕ) → ℕ → ℕ
 wordAt s j = ofBits 64 (λ i. s (64 * j + i))
@@ -43,8 +51,7 @@ packedBit ps n = bit (getD ps (n / 64) 0) (n % 64)
 
 -- The words `out` after pack of the words ws. "Spare bits of the last word written become zero; words after it keep their values."
 unfoldable pub packInto : ℕ → List ℕ → List ℕ → List ℕ
-packInto m ws out =
-    upTo (needed (sizeOf m * length ws)) (wordAt (streamBit (sizeOf m) (fieldsOf m ws))) ++ drop (needed (sizeOf m * length ws)) out
+packInto m ws out = overwritten (needed (sizeOf m * length ws)) (wordAt (streamOf m ws)) out
 
 -- "Unpack reads fields so laid from the first strip": field f of k bits
 unfoldable pub fieldAt : ℕ → List ℕ → ℕ → ℕ

@@ -18,9 +18,7 @@ moves-requires : tie.Need-moves-requires Inv-loop μ-loop
 moves-requires c κs = search needs
 
 loop-holds : tie.Need-loop-holds Inv-loop μ-loop
-loop-holds c =
-    let a = c .before .args in
-    (search needs, pushed-none (omega (arith, and-le-r (a .word) (a .mask))))
+loop-holds c = (search needs, pushed-none (omega (arith, and-le-r (c .before .args .word) (c .before .args .mask))))
 
 mul-moved : tie.Need-mul-moved Inv-loop μ-loop
 mul-moved c = search needs
@@ -48,10 +46,8 @@ loop-again c =
 
 returns : tie.Need-returns Inv-loop μ-loop
 returns c =
-    let l = c .before .loop in
-    let a = c .before .before .before .args in
-    let e : l .i ≡ 6 = omega arith in
-    pushed-all (a .mask) (a .word) (rw e at (l .inv .1))
+    let e : c .before .loop .i ≡ 6 = omega arith in
+    pushed-all _ _ (rw e at (c .before .loop .inv .1))
 
 pub compress-spec : {M : Type 1} → statement M
 compress-spec =

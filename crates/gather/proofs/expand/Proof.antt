@@ -47,10 +47,8 @@ loop-again c =
 
 returns : tie.Need-returns Inv-loop μ-loop
 returns c =
-    let l = c .before .loop in
-    let a = c .before .before .before .args in
-    let e : l .i ≡ 0 = omega arith in
-    pulled-none (a .mask) (a .word) (rw e at (l .inv .1)) (search needs)
+    let e : c .before .loop .i ≡ 0 = omega arith in
+    pulled-none _ _ (rw e at (c .before .loop .inv .1)) (search needs)
 
 pub expand-spec : {M : Type 1} → statement M
 expand-spec =

@@ -16,10 +16,7 @@ answer-requires : tie.Need-answer-requires
 answer-requires c κs = search needs
 
 returns : tie.Need-returns
-returns c =
-    let b = c .before .before in
-    let a = b .before .args in
-    answer-64 (a .width) (a .mask) (a .word) groupOf (b .refusal .ensures) (group-64 (a .width) (a .mask) (a .word)) (c .before .group-bits .ensures) (c .answer .ensures)
+returns c = answer-64 _ _ _ groupOf (c .before .before .refusal .ensures) (group-64 _ _ _) (c .before .group-bits .ensures) (c .answer .ensures)
 
 pub group-spec : {M : Type 1} → statement M
 group-spec = tie.close (tie.spec refusal-requires group-bits-requires answer-requires returns)

@@ -14,10 +14,7 @@ count-requires : tie.Need-count-requires
 count-requires c κs = search needs
 
 returns : tie.Need-returns
-returns c =
-    let b = c .before .before in
-    let a = b .before .args in
-    group-all (a .mask) (a .word) (search needs) (b .compress .ensures) (c .before .count .ensures) (c .if1 .taken)
+returns c = group-all _ _ (search needs) (c .before .before .compress .ensures) (c .before .count .ensures) (c .if1 .taken)
 
 compress-requires-2 : tie.Need-compress-requires-2
 compress-requires-2 c κs = search needs
@@ -37,8 +34,7 @@ add-result c =
 returns-2 : tie.Need-returns-2
 returns-2 c =
     let b = c .before .before in
-    let a = b .before .before .args in
-    group-sum (a .mask) (a .word) (search needs) (b .before .compress .ensures) (b .count .ensures) (c .compress2 .ensures)
+    group-sum _ _ (search needs) (b .before .compress .ensures) (b .count .ensures) (c .compress2 .ensures)
 
 pub group-bits-spec : {M : Type 1} → statement M
 group-bits-spec =

@@ -1,4 +1,4 @@
--- `gather::parities` meets its contract: each line doubles how many bits are summed. Assumes nothing.
+-- `gather::parities` meets its contract: each step doubles how many bits are summed. Assumes nothing.
 use Rattle.gather.proofs.Gaps.{sums-one, sums-double, sums-all}
 use Rattle.gather.proofs.parities.Statement.{statement}
 use Rattle.gather.proofs.parities.Tie as tie

@@ -1,7 +1,9 @@
 -- `gather::refusal` meets its contract: its tests are those of the list, in order. Assumes nothing.
-use mathlib.Core.Path.{refl, sym, _∙_}
+use mathlib.Core.Path.{_≡_, refl, sym, _∙_}
+use mathlib.Core.Bool.{true}
 use borrow.Author.Needs.{needs}
 use borrow.Author.Tests.{not-true, not-false}
+use Rattle.bits.specs.Refusal.{accepted, fits}
 use Rattle.bits.proofs.Refusals.{not-width, is-width}
 use Rattle.gather.proofs.MaskAnswers.{refusal-by}
 use Rattle.gather.proofs.refusal.Statement.{statement}
@@ -12,50 +14,36 @@ log-of-requires c κs = search needs
 
 returns : tie.Need-returns
 returns c =
-    let a = c .before .before .args in
-    let e = not-width (a .width) (sym (c .before .log-of .ensures) ∙ c .if1 .taken) in
-    sym (refusal-by (a .width) (a .mask) (a .word) e refl refl)
+    let e = not-width (c .before .before .args .width) (sym (c .before .log-of .ensures) ∙ c .if1 .taken) in
+    sym (refusal-by _ _ _ e refl refl)
 
 is-within-requires : tie.Need-is-within-requires
 is-within-requires c κs = search needs
 
+-- past the first test
+width : (c : tie.Else1) → accepted (c .before .before .args .width) ≡ true
+width c = is-width (c .before .before .args .width) (λ z. c .if1 .left (c .before .log-of .ensures ∙ z))
+
 returns-2 : tie.Need-returns-2
 returns-2 c =
-    let a = c .before .before .before .before .args in
-    let b = c .before .before in
-    let e = is-width (a .width) (λ z. b .if1 .left (b .before .log-of .ensures ∙ z)) in
-    let f = sym (c .before .is-within .ensures) ∙ not-true _ (c .if2 .taken) in
-    sym (refusal-by (a .width) (a .mask) (a .word) e f refl)
+    sym (refusal-by _ _ _ (width (c .before .before)) (sym (c .before .is-within .ensures) ∙ not-true _ (c .if2 .taken)) refl)
 
 is-within-requires-2 : tie.Need-is-within-requires-2
 is-within-requires-2 c κs = search needs
 
+-- past the second
+word : (c : tie.Else2) → let a = c .before .before .before .before .args in fits (a .width) (a .word) ≡ true
+word c = sym (c .before .is-within .ensures) ∙ not-false _ (c .if2 .left)
+
 returns-3 : tie.Need-returns-3
 returns-3 c =
-    let a = c .before .before .before .before .before .before .args in
-    let b = c .before .before .before .before in
-    let e = is-width (a .width) (λ z. b .if1 .left (b .before .log-of .ensures ∙ z)) in
-    let f = sym (c .before .before .before .is-within .ensures) ∙ not-false _ (c .before .before .if2 .left) in
-    let g = sym (c .before .is-within2 .ensures) ∙ not-true _ (c .if3 .taken) in
-    sym (refusal-by (a .width) (a .mask) (a .word) e f g)
+    let e = c .before .before in
+    sym (refusal-by _ _ _ (width (e .before .before)) (word e) (sym (c .before .is-within2 .ensures) ∙ not-true _ (c .if3 .taken)))
 
 returns-4 : tie.Need-returns-4
 returns-4 c =
-    let a = c .before .before .before .before .before .before .args in
-    let b = c .before .before .before .before in
-    let e = is-width (a .width) (λ z. b .if1 .left (b .before .log-of .ensures ∙ z)) in
-    let f = sym (c .before .before .before .is-within .ensures) ∙ not-false _ (c .before .before .if2 .left) in
-    let g = sym (c .before .is-within2 .ensures) ∙ not-false _ (c .if3 .left) in
-    sym (refusal-by (a .width) (a .mask) (a .word) e f g)
+    let e = c .before .before in
+    sym (refusal-by _ _ _ (width (e .before .before)) (word e) (sym (c .before .is-within2 .ensures) ∙ not-false _ (c .if3 .left)))
 
 pub refusal-spec : {M : Type 1} → statement M
-refusal-spec =
-    tie.close
-    (tie.spec
-    log-of-requires
-    returns
-    is-within-requires
-    returns-2
-    is-within-requires-2
-    returns-3
-    returns-4)
+refusal-spec = tie.close (tie.spec log-of-requires returns is-within-requires returns-2 is-within-requires-2 returns-3 returns-4)

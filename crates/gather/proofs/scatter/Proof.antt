@@ -16,10 +16,7 @@ answer-requires : tie.Need-answer-requires
 answer-requires c κs = search needs
 
 returns : tie.Need-returns
-returns c =
-    let b = c .before .before in
-    let a = b .before .args in
-    answer-64 (a .width) (a .mask) (a .word) scatterOf (b .refusal .ensures) (λ h l k. scatter-64 (a .width) (a .mask) (a .word) h l) (c .before .expand .ensures) (c .answer .ensures)
+returns c = answer-64 _ _ _ scatterOf (c .before .before .refusal .ensures) (λ h l k. scatter-64 _ _ _ h l) (c .before .expand .ensures) (c .answer .ensures)
 
 pub scatter-spec : {M : Type 1} → statement M
 scatter-spec = tie.close (tie.spec refusal-requires expand-requires answer-requires returns)

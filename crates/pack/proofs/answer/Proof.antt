@@ -1,7 +1,6 @@
 -- `pack::answer` meets its contract. Assumes nothing.
-use mathlib.Core.Path.{sym, _∙_}
 use native.Mathlib.Omega.{arith}
-use Rattle.pack.proofs.FieldAnswers.{within, answer-refused, answer-done, bits-fit}
+use Rattle.pack.proofs.FieldAnswers.{inside, answer-refused, answer-done, bits-fit}
 use borrow.Author.Needs.{needs}
 use Rattle.pack.proofs.answer.Statement.{statement}
 use Rattle.pack.proofs.answer.Tie as tie
@@ -10,25 +9,18 @@ refusal-requires : tie.Need-refusal-requires
 refusal-requires c κs = search needs
 
 returns : tie.Need-returns
-returns c =
-    let a = c .before .before .args in
-    answer-refused (a .size) (a .a) (a .b) (a .own) (a .other) (c .before .refusal .ensures) (c .if1 .taken)
+returns c = answer-refused _ _ _ _ _ (c .before .refusal .ensures) (c .if1 .taken)
 
 sub-t8 : tie.Need-sub-t8
-sub-t8 c =
-    let a = c .before .before .args in
-    within (a .size) (a .a) (a .b) (a .own) (a .other) (sym (c .before .refusal .ensures) ∙ c .if1 .left) .order
+sub-t8 c = inside _ _ _ _ _ (c .before .refusal .ensures) (c .if1 .left) .start
 
 mul-t10 : tie.Need-mul-t10
 mul-t10 c =
-    let a = c .before .before .args in
-    let l = bits-fit (a .size) (a .a) (a .b) (a .own) (a .other) (c .before .refusal .ensures) (search needs) (c .if1 .left) in
+    let l = bits-fit _ _ _ _ _ (c .before .refusal .ensures) (search needs) (c .if1 .left) in
     record { fits = omega arith }
 
 returns-2 : tie.Need-returns-2
-returns-2 c =
-    let a = c .before .before .args in
-    answer-done (a .size) (a .a) (a .b) (a .own) (a .other) (c .before .refusal .ensures) (c .if1 .left)
+returns-2 c = answer-done _ _ _ _ _ (c .before .refusal .ensures) (c .if1 .left)
 
 pub answer-spec : {M : Type 1} → statement M
 answer-spec = tie.close (tie.spec refusal-requires returns sub-t8 mul-t10 returns-2)

@@ -5,8 +5,8 @@ use native.Mathlib.Omega.{arith}
 use borrow.Author.Needs.{needs}
 use lib.ListN.{length, length-set}
 use Rattle.bits.proofs.Rank.{rank-le}
-use Rattle.pack.specs.Fields.{sizeOf, scatteredAt}
-use Rattle.pack.specs.Cursor.{filled, Awaits}
+use Rattle.pack.specs.Fields.{sizeOf, scatteredAt, overwritten}
+use Rattle.pack.specs.Cursor.{Awaits}
 use Rattle.pack.proofs.FilledLists.{fill-none, fill-next, fill-all}
 use Rattle.pack.proofs.Turns.{unpack-starts, unpack-room, unpack-turn, unpack-field}
 use Rattle.pack.proofs.read_fields.Statement.{statement}
@@ -14,7 +14,7 @@ use Rattle.pack.proofs.read_fields.Tie as tie
 
 abbrev Inv-loop : tie.InvT-loop
 Inv-loop mask packed out₀ size swaps cursor₀ i₀ out cursor i = (i ≤ length out₀) × (length out ≡ length out₀) × Awaits packed (sizeOf mask * i) cursor
-    × (out ≡ filled i (scatteredAt mask packed) out₀)
+    × (out ≡ overwritten i (scatteredAt mask packed) out₀)
 
 abbrev μ-loop : tie.MeasureT-loop
 μ-loop mask packed out₀ size swaps cursor₀ i₀ out cursor i = length out₀ - i
@@ -29,9 +29,7 @@ start-requires : tie.Need-start-requires Inv-loop μ-loop
 start-requires c κs = search needs
 
 loop-holds : tie.Need-loop-holds Inv-loop μ-loop
-loop-holds c =
-    let a = c .before .before .before .before .before .args in
-    (search needs, search needs, unpack-starts (a .mask) (a .packed .now) (c .start .ensures), fill-none (scatteredAt (a .mask) (a .packed .now)) (a .out .now))
+loop-holds c = (search needs, search needs, unpack-starts _ _ (c .start .ensures), fill-none _ _)
 
 take-requires : tie.Need-take-requires Inv-loop μ-loop
 take-requires c κs =
@@ -62,13 +60,11 @@ loop-again : tie.Need-loop-again Inv-loop μ-loop
 loop-again c =
     let t = c .before .before in
     let l = t .before .before in
-    let k = l .before .before .before in
-    let a = k .before .before .before .args in
-    let f = c .scattered .ensures ∙ unpack-field (a .mask) (a .packed .now) (l .loop .i) (l .loop .inv .2) (k .count .ensures) (t .take .ensures) in (
+    let k = l .before .before .before .count .ensures in (
       search needs,
       simp length-set (search needs),
-      unpack-turn (a .mask) (a .packed .now) (l .loop .i) (l .loop .inv .2) (k .count .ensures) (t .take .ensures),
-      fill-next (scatteredAt (a .mask) (a .packed .now)) (l .loop .i) (a .out .now) (search needs) (l .loop .inv .3) f,
+      unpack-turn _ _ (l .loop .i) (l .loop .inv .2) k (t .take .ensures),
+      fill-next _ (l .loop .i) _ (search needs) (l .loop .inv .3) (c .scattered .ensures ∙ unpack-field _ _ (l .loop .i) (l .loop .inv .2) k (t .take .ensures)),
     )
 
 same-length : tie.Need-same-length Inv-loop μ-loop
@@ -79,7 +75,7 @@ returns c =
     let l = c .before in
     let a = l .before .before .before .before .before .before .args in
     let e : l .loop .i ≡ length (a .out .now) = search needs in
-    rw e at (l .loop .inv .3) ∙ fill-all (scatteredAt (a .mask) (a .packed .now)) (length (a .out .now)) (a .out .now) (search needs)
+    rw e at (l .loop .inv .3) ∙ fill-all _ _ _ (search needs)
 
 pub read-fields-spec : {M : Type 1} → statement M
 read-fields-spec =

@@ -2,53 +2,57 @@
 use Prim.Native.Nat.{_*_, _-_, _≤_}
 use native.Mathlib.Omega.{arith}
 use borrow.Author.Needs.{needs}
-use Rattle.pack.proofs.FieldAnswers.{bits-le, by-order, by-end, by-own, by-other, by-short, by-none}
+use borrow.Author.Tests.{lt-ltb, le-ltb}
+use Rattle.pack.specs.Calls.{fieldsRefusal}
+use Rattle.pack.proofs.FieldAnswers.{bits-le, by-none}
 use Rattle.pack.proofs.refusal.Statement.{statement}
 use Rattle.pack.proofs.refusal.Tie as tie
 
 returns : tie.Need-returns
-returns c =
-    let a = c .before .args in
-    by-order (a .size) (a .a) (a .b) (a .own) (a .other) (search needs)
+unfolding fieldsRefusal
+returns c = simp (lt-ltb _ _ (c .if1 .taken))
 
 returns-2 : tie.Need-returns-2
-returns-2 c =
-    let a = c .before .before .args in
-    by-end (a .size) (a .a) (a .b) (a .own) (a .other) (search needs) (search needs)
+unfolding fieldsRefusal
+returns-2 c = simp (le-ltb _ _ (c .before .if1 .left), lt-ltb _ _ (c .if2 .taken))
 
 returns-3 : tie.Need-returns-3
-returns-3 c =
-    let a = c .before .before .before .args in
-    by-own (a .size) (a .a) (a .b) (a .own) (a .other) (search needs) (search needs) (search needs)
+unfolding fieldsRefusal
+returns-3 c = simp (le-ltb _ _ (c .before .before .if1 .left), le-ltb _ _ (c .before .if2 .left), lt-ltb 2048 _ (c .if3 .taken))
 
 returns-4 : tie.Need-returns-4
+unfolding fieldsRefusal
 returns-4 c =
-    let a = c .before .before .before .before .args in
-    by-other (a .size) (a .a) (a .b) (a .own) (a .other) (search needs) (search needs) (search needs) (search needs)
+    simp (
+      le-ltb _ _ (c .before .before .before .if1 .left),
+      le-ltb _ _ (c .before .before .if2 .left),
+      le-ltb 2048 _ (c .before .if3 .left),
+      lt-ltb 2048 _ (c .if4 .taken),
+    )
+
+-- as many bits as are asked for fit
+asked : (c : tie.Else4) → let a = c .before .before .before .before .args in a .size * (a .b - a .a) ≤ 131072
+asked c = bits-le (search needs) (search needs)
 
 mul-needed : tie.Need-mul-needed
-mul-needed c =
-    let a = c .before .before .before .before .args in
-    let l : a .size * (a .b - a .a) ≤ 131072 = bits-le (search needs) (search needs) in
-    record { fits = omega arith }
+mul-needed c = record { fits = omega (arith, asked c) }
 
 add-needed : tie.Need-add-needed
-add-needed c =
-    let a = c .before .before .before .before .args in
-    let l : a .size * (a .b - a .a) ≤ 131072 = bits-le (search needs) (search needs) in
-    record { fits = omega arith }
+add-needed c = record { fits = omega (arith, asked c) }
 
 returns-5 : tie.Need-returns-5
+unfolding fieldsRefusal
 returns-5 c =
-    let a = c .before .before .before .before .before .args in
-    by-short (a .size) (a .a) (a .b) (a .own) (a .other) (search needs) (search needs) (search needs) (search needs) (search needs)
+    simp (
+      le-ltb _ _ (c .before .before .before .before .if1 .left),
+      le-ltb _ _ (c .before .before .before .if2 .left),
+      le-ltb 2048 _ (c .before .before .if3 .left),
+      le-ltb 2048 _ (c .before .if4 .left),
+      lt-ltb _ _ (c .if5 .taken),
+    )
 
 returns-6 : tie.Need-returns-6
-returns-6 c =
-    let a = c .before .before .before .before .before .args in
-    by-none (a .size) (a .a) (a .b) (a .own) (a .other) (search needs)
+returns-6 c = by-none _ _ _ _ _ (search needs)
 
 pub refusal-spec : {M : Type 1} → statement M
-refusal-spec =
-    tie.close
-    (tie.spec returns returns-2 returns-3 returns-4 mul-needed add-needed returns-5 returns-6)
+refusal-spec = tie.close (tie.spec returns returns-2 returns-3 returns-4 mul-needed add-needed returns-5 returns-6)

@@ -5,9 +5,9 @@ use native.Mathlib.Omega.{arith}
 use borrow.Author.Needs.{needs}
 use lib.ListN.{length, length-set}
 use Rattle.bits.proofs.Rank.{rank-le}
-use Rattle.pack.specs.Fields.{sizeOf}
+use Rattle.pack.specs.Fields.{sizeOf, streamOf}
 use Rattle.pack.specs.Cursor.{Holds}
-use Rattle.pack.proofs.Turns.{streamOf, pack-starts, pack-turn, pack-room, pack-whole, last-room, pack-last}
+use Rattle.pack.proofs.Turns.{pack-starts, pack-turn, pack-room, pack-whole, last-room, pack-last}
 use Rattle.pack.proofs.write_fields.Statement.{statement}
 use Rattle.pack.proofs.write_fields.Tie as tie
 
@@ -28,9 +28,7 @@ start-requires : tie.Need-start-requires Inv-loop μ-loop
 start-requires c κs = search needs
 
 loop-holds : tie.Need-loop-holds Inv-loop μ-loop
-loop-holds c =
-    let a = c .before .before .before .before .before .args in
-    (search needs, search needs, pack-starts (a .mask) (a .words .now) (a .out .now) (c .start .ensures))
+loop-holds c = (search needs, search needs, pack-starts _ (c .before .before .before .before .before .args .words .now) _ (c .start .ensures))
 
 mul-gathered : tie.Need-mul-gathered Inv-loop μ-loop
 mul-gathered c = search needs
@@ -63,11 +61,8 @@ loop-again c =
     let g = p .before .before in
     let l = g .before .before .before in
     let k = l .before .before .before in
-    let a = k .before .before .before .args in (
-      search needs,
-      search needs,
-      pack-turn (a .mask) (a .words .now) (a .out .now) (search needs) (l .loop .inv .2) (k .count .ensures) (g .gathered .ensures) (p .put .ensures),
-    )
+    let ws = k .before .before .before .args .words .now in
+    (search needs, search needs, pack-turn _ ws _ (search needs) (l .loop .inv .2) (k .count .ensures) (g .gathered .ensures) (p .put .ensures))
 
 -- all fields are put
 ended : (l : tie.At-loop Inv-loop μ-loop) → l .loop .i ≡ length (l .before .before .before .before .before .before .args .words .now)
@@ -79,10 +74,7 @@ same-length : tie.Need-same-length Inv-loop μ-loop
 same-length c = search needs
 
 returns : tie.Need-returns Inv-loop μ-loop
-returns c =
-    let l = c .before .before .before in
-    let a = l .before .before .before .before .before .before .args in
-    pack-whole (a .mask) (a .words .now) (a .out .now) (search needs) (ended l (search needs)) (c .if1 .taken)
+returns c = pack-whole _ _ _ (search needs) (ended (c .before .before .before) (search needs)) (c .if1 .taken)
 
 last : (c : tie.Else1 Inv-loop μ-loop) → c .before .before .before .loop .cursor .word < length (c .before .before .before .loop .out)
 last c =
@@ -100,10 +92,7 @@ same-length-2 : tie.Need-same-length-2 Inv-loop μ-loop
 same-length-2 c = simp length-set (search needs)
 
 returns-2 : tie.Need-returns-2 Inv-loop μ-loop
-returns-2 c =
-    let l = c .before .before .before in
-    let a = l .before .before .before .before .before .before .args in
-    pack-last (a .mask) (a .words .now) (a .out .now) (search needs) (ended l (search needs)) (c .if1 .left)
+returns-2 c = pack-last _ _ _ (search needs) (ended (c .before .before .before) (search needs)) (c .if1 .left)
 
 pub write-fields-spec : {M : Type 1} → statement M
 write-fields-spec =
