@@ -1,10 +1,10 @@
 -- One step of the walk on the marks: what the first and the last step leave.
 -- Assumes nothing.
-use mathlib.Core.Path.{_≡_, refl, sym, ap, ap₂, _∙_, subst, fun-ext}
+use mathlib.Core.Path.{_≡_, refl, sym, ap, _∙_, subst, fun-ext}
 use mathlib.Core.Logic.{_≢_}
 use mathlib.Core.Bool.{Bool, true, false, not}
 use mathlib.Core.List.{List}
-use Prim.Native.Nat.{ℕ, zero, suc, _+_, _*_, _%_, _^_, _<_}
+use Prim.Native.Nat.{ℕ, suc, _+_, _*_, _%_, _^_, _<_}
 use native.Mathlib.Nat.{mod-lt, mod-eq-of-lt}
 use native.Mathlib.Omega.{arith}
 use lib.Dec.{leb}
@@ -12,7 +12,7 @@ use lib.Pow.{pow-pos}
 use lib.ListN.{getD}
 use borrow.Author.Tests.{lt-leb}
 use Rattle.routing.specs.Place.{Place, num}
-use Rattle.routing.specs.Marks.{Mark, unset, Marks, isUnset, countUnset}
+use Rattle.routing.specs.Marks.{Mark, unset, Marks, countUnset}
 use Rattle.routing.specs.Stages.{Stage, Butterfly, Inverse, exponent}
 use Rattle.routing.specs.Level.{other, Sets}
 use Rattle.routing.specs.Walk.{OnWalk}
@@ -62,7 +62,7 @@ pub kept-at :
 kept-at In c b s marks marks′ kept he hs out =
     at-row c b s marks′ ∙ kept c (b + s) he hs out ∙ sym (at-row c b s marks)
 
-pub kept-trans :
+kept-trans :
     (In : Stage → ℕ → Type 0) (marks marks′ marks″ : List ℕ)
     → Kept In marks marks′
     → Kept In marks′ marks″

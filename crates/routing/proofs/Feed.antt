@@ -21,7 +21,7 @@ module _ {S : Type 0} (K : Numbered S) (m : Maps (Bool × S)) (perm : IsPermutat
       rw (flip-flip (m .to (flip (m .from x))), perm .from-to (flip (m .from x))) (flip-switch (m .from x))
 
   -- a last switch swaps exactly if its low place takes a bit of the upper side
-  pub last-value :
+  last-value :
       (f : S → Bool)
       → Valid m f
       → (x : Bool × S)

@@ -16,7 +16,7 @@ use Rattle.routing.proofs.Leads.{ReadsNet, leads}
 use Rattle.routing.proofs.Later.{agree-or-later}
 
 -- a net and its stages over the whole width move bits alike
-pub network-source :
+network-source :
     (n : ℕ) (C : StageControls) (N : Net n)
     → ReadsNet n C N
     → (p : Place n)
@@ -26,13 +26,13 @@ network-source n C N r p =
     ap (butterfly n (λ e. C (Butterfly e))) (inverse-source n (λ e. C (Inverse e)) (N .inverse) (r .inverse) p)
     ∙ butterfly-source n (λ e. C (Butterfly e)) (N .butterfly) (r .butterfly) (inverseSource n (N .inverse) p)
 
-pub reads-controls : (n : ℕ) (N : Net n) → ReadsNet n (netControls n N) N
+reads-controls : (n : ℕ) (N : Net n) → ReadsNet n (netControls n N) N
 reads-controls n N = record { butterfly = reads-flat n (N .butterfly); inverse = reads-flat n (N .inverse) }
 
-pub netOf : (n : ℕ) → StageControls → Net n
+netOf : (n : ℕ) → StageControls → Net n
 netOf n C = record { butterfly = treeOf n (λ e. C (Butterfly e)); inverse = treeOf n (λ e. C (Inverse e)) }
 
-pub reads-net : (n : ℕ) (C : StageControls) → ReadsNet n C (netOf n C)
+reads-net : (n : ℕ) (C : StageControls) → ReadsNet n C (netOf n C)
 unfolding netOf
 reads-net n C =
     record {
@@ -41,25 +41,17 @@ reads-net n C =
     }
 
 -- only the values below 2^n count
-pub on-places-cong :
-    (n : ℕ) (π ρ π′ ρ′ : ℕ → ℕ)
-    → ((p : ℕ) → p < 2 ^ n → π p ≡ π′ p)
-    → ((x : ℕ) → x < 2 ^ n → ρ x ≡ ρ′ x)
-    → onPlaces n π ρ ≡ onPlaces n π′ ρ′
-unfolding onPlaces
-on-places-cong n π ρ π′ ρ′ to from =
-    maps-path
-    (fun-ext (λ p. ap (place n) (to (num n p) (num-lt n p))))
-    (fun-ext (λ x. ap (place n) (from (num n x) (num-lt n x))))
-
 pub first-controls-cong :
     (n : ℕ) (π ρ π′ ρ′ : ℕ → ℕ)
     → ((p : ℕ) → p < 2 ^ n → π p ≡ π′ p)
     → ((x : ℕ) → x < 2 ^ n → ρ x ≡ ρ′ x)
     → firstControls n π ρ ≡ firstControls n π′ ρ′
-unfolding firstControls
+unfolding firstControls onPlaces
 first-controls-cong n π ρ π′ ρ′ to from =
-    ap (λ (m : Maps (Place n)). netControls n (firstNet n m)) (on-places-cong n π ρ π′ ρ′ to from)
+    ap (λ (m : Maps (Place n)). netControls n (firstNet n m))
+    (maps-path
+    (fun-ext (λ p. ap (place n) (to (num n p) (num-lt n p))))
+    (fun-ext (λ x. ap (place n) (from (num n x) (num-lt n x)))))
 
 -- a permutation has one inverse
 pub inverse-unique :
@@ -157,7 +149,7 @@ module _ (n : ℕ) (π ρ : ℕ → ℕ) (perm : Permutes (2 ^ n) π ρ) where
       }
 
 -- sets that agree have the same net
-pub reads-net-cong :
+reads-net-cong :
     (n : ℕ) (C D : StageControls) (N : Net n) → Agree n C D → ReadsNet n D N → ReadsNet n C N
 reads-net-cong n C D N agree r =
     record {
@@ -180,7 +172,7 @@ reads-agree n C N r (Inverse e) =
     reads-same n (λ e. C (Inverse e)) (flat n (N .inverse)) (N .inverse) (r .inverse) (reads-flat n (N .inverse)) e
 
 -- sets that agree bring the same bits
-pub network-cong :
+network-cong :
     (n : ℕ) (C D : StageControls) → Agree n C D → (p : ℕ) → p < 2 ^ n → network n C p ≡ network n D p
 network-cong n C D agree p l =
     let e = num-place n p l in

@@ -57,7 +57,7 @@ inverse-source n c F r p =
 pub within-range : (k : ℕ) (h : Bool) (e s : ℕ) → InRange (suc k) e s → InRange (suc (suc k)) e (weight h k + s)
 within-range k h e s i = record { at-stage = omega (arith, i .at-stage); switch = omega (arith, i .switch, weight-le h k) }
 
-pub agree-within :
+agree-within :
     (n : ℕ) (h : Bool) (c d : ℕ → ℕ → Bool)
     → Same (suc n) c d
     → Same n (within n h c) (within n h d)

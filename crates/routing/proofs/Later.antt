@@ -2,14 +2,14 @@
 -- Assumes nothing.
 use mathlib.Core.Path.{_≡_, refl, sym, ap, _∙_, subst}
 use mathlib.Core.Logic.{_⊎_, inl, inr, _≢_}
-use mathlib.Core.Bool.{Bool, true, false, cond, Bool-discrete, true≢false}
+use mathlib.Core.Bool.{Bool, true, false, cond, Bool-discrete}
 use Prim.Native.Nat.{ℕ, suc, _+_, _-_, _^_, _<_}
 use native.Mathlib.Decide.{decLt}
 use native.Mathlib.Omega.{arith}
 use lib.Dec.{ltb}
 use borrow.Author.Tests.{lt-ltb, le-ltb, ltb-true, ltb-false}
 use Rattle.routing.specs.Loop.{pass, swap}
-use Rattle.routing.specs.Stages.{Stage, Butterfly, Inverse, exponent, StageControls, Earlier, SwitchBefore, AgreeBefore, Agree, ComesLater, Leads}
+use Rattle.routing.specs.Stages.{Stage, Butterfly, Inverse, exponent, StageControls, Earlier, AgreeBefore, Agree, ComesLater, Leads}
 use Rattle.routing.proofs.Finite.{Least, least-or-none}
 
 -- the place of a stage in the direction of travel, and the stage at a place

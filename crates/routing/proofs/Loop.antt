@@ -29,7 +29,7 @@ module _ {S : Type 0} (m : Maps (Bool × S)) (perm : IsPermutation m) where
   turn-back x =
       rw (flip-flip (m .to (flip (m .from x))), perm .from-to (flip (m .from x)), flip-flip (m .from x), perm .to-from x)
 
-  pub turn-injective : (x y : Bool × S) → loopTurn m x ≡ loopTurn m y → x ≡ y
+  turn-injective : (x y : Bool × S) → loopTurn m x ≡ loopTurn m y → x ≡ y
   turn-injective x y e = cc (turn-back x, turn-back y, flip-flip x, flip-flip y)
 
   pub turns-suc : (k : ℕ) (x : Bool × S) → loopTurns m (suc k) x ≡ loopTurn m (loopTurns m k x)
@@ -37,12 +37,12 @@ module _ {S : Type 0} (m : Maps (Bool × S)) (perm : IsPermutation m) where
   turns-suc zero x = refl
   turns-suc (suc k) x = turns-suc k (loopTurn m x)
 
-  pub turns-add : (j k : ℕ) (x : Bool × S) → loopTurns m (j + k) x ≡ loopTurns m k (loopTurns m j x)
+  turns-add : (j k : ℕ) (x : Bool × S) → loopTurns m (j + k) x ≡ loopTurns m k (loopTurns m j x)
   unfolding loopTurns
   turns-add zero k x = rw zero-add
   turns-add (suc j) k x = rw suc-add (turns-add j k (loopTurn m x))
 
-  pub turns-injective : (k : ℕ) (x y : Bool × S) → loopTurns m k x ≡ loopTurns m k y → x ≡ y
+  turns-injective : (k : ℕ) (x y : Bool × S) → loopTurns m k x ≡ loopTurns m k y → x ≡ y
   unfolding loopTurns
   turns-injective zero x y e = e
   turns-injective (suc k) x y e = turn-injective x y (turns-injective k (loopTurn m x) (loopTurn m y) e)
@@ -54,7 +54,7 @@ module _ {S : Type 0} (m : Maps (Bool × S)) (perm : IsPermutation m) where
       (cc (perm .from-to (flip (m .from x)), flip-flip x, flip-flip (m .to (flip (m .from x))), e))
 
   -- no loop meets both bits of a switch
-  pub no-flip : (k : ℕ) (x : Bool × S) → loopTurns m k x ≡ flip x → ⊥
+  no-flip : (k : ℕ) (x : Bool × S) → loopTurns m k x ≡ flip x → ⊥
   unfolding loopTurns
   no-flip zero x e = flip-ne x (sym e)
   no-flip (suc zero) x e = turn-ne-flip x e
@@ -81,14 +81,14 @@ module _ {S : Type 0} (m : Maps (Bool × S)) (perm : IsPermutation m) where
       ∙ same-on-loop d (loopTurns m i x) (ap (λ (y : Bool × S). y .1) (sym (turns-add i d x)) ∙ e))
 
   -- the loop of the other bits runs the other way
-  pub turns-back : (k : ℕ) (x : Bool × S) → loopTurns m k (flip (loopTurns m k x)) ≡ flip x
+  turns-back : (k : ℕ) (x : Bool × S) → loopTurns m k (flip (loopTurns m k x)) ≡ flip x
   unfolding loopTurns
   turns-back zero x = refl
   turns-back (suc k) x =
       turns-suc k (flip (loopTurns m k (loopTurn m x))) ∙ ap (loopTurn m) (turns-back k (loopTurn m x)) ∙ turn-back x
 
   -- a valid stage sends a loop to one side
-  pub side-turn : (f : S → Bool) → Valid m f → (x : Bool × S) → side f (loopTurn m x) ≡ side f x
+  side-turn : (f : S → Bool) → Valid m f → (x : Bool × S) → side f (loopTurn m x) ≡ side f x
   unfolding loopTurn
   side-turn f valid x =
       cc

@@ -128,7 +128,7 @@ inverse-words n c e s i =
     (ap (λ (x : ℕ). controlIn x s) (inverse-word w 0 n c e e (omega arith) (i .at-stage))
     ∙ control-word w (c e) s (switch-small n e s i))
 
-pub words-agree : (n : ℕ) (C : StageControls) → Agree n C (fromWords n (wordsOf n C))
+words-agree : (n : ℕ) (C : StageControls) → Agree n C (fromWords n (wordsOf n C))
 unfolding wordsOf
 words-agree n C (Butterfly e) s i = butterfly-words n (λ e. C (Butterfly e)) e s i
 words-agree n C (Inverse e) s i = inverse-words n (λ e. C (Inverse e)) e s i

@@ -10,7 +10,7 @@ use Rattle.routing.specs.Loop.{Maps, IsPermutation, xor, pass, flip, sid
 use Rattle.routing.specs.Marks.{Mark, unset, set, Marks, Given, Right, SetTo}
 use Rattle.routing.specs.Walk.{stand, LoopsSet, Walk}
 use Rattle.routing.proofs.Stage.{flip-switch, same-switch}
-use Rattle.routing.proofs.Loop.{Numbered, turn-back, turns-suc, side-turns, same-on-loop, Period, period, reach-sym, return, repeats}
+use Rattle.routing.proofs.Loop.{Numbered, turn-back, turns-suc, side-turns, same-on-loop, reach-sym, return, repeats}
 use Rattle.routing.proofs.First.{leastOf, least-is, stageOne, first-valid, passes-if-least}
 
 given-or-unset : {S : Type 0} (M : Marks S) (s : S) → Given M s ⊎ (M s ≡ unset)
@@ -75,7 +75,7 @@ module _ {S : Type 0} (K : Numbered S) (m : Maps (Bool × S)) (perm : IsPermutat
   closed-turns st (suc j) x g = closed-turns st j (loopTurn m x) (st .closed x g)
 
   -- an unset switch with all below it set is the least of its loop
-  pub fresh-passes : {M : Marks S} (s : S) → LoopsSet (K .index) (K .count) m (K .index s) M → M s ≡ unset → stageOne K m perm s ≡ pass
+  fresh-passes : {M : Marks S} (s : S) → LoopsSet (K .index) (K .count) m (K .index s) M → M s ≡ unset → stageOne K m perm s ≡ pass
   fresh-passes {M} s st none =
       passes-if-least K m perm s
       (λ l.
@@ -97,7 +97,7 @@ module _ {S : Type 0} (K : Numbered S) (m : Maps (Bool × S)) (perm : IsPermutat
         go (yes e) = rw e given-here
         go (no ne) = record { value = g .value; is = d .elsewhere t ne ∙ g .is }
 
-    pub given-only : (t : S) → Given M′ t → Given M t ⊎ (s ≡ t)
+    given-only : (t : S) → Given M′ t → Given M t ⊎ (s ≡ t)
     given-only t g = go (decide t s)
       where
         go : Dec (t ≡ s) → Given M t ⊎ (s ≡ t)
@@ -146,20 +146,9 @@ module _ {S : Type 0} (K : Numbered S) (m : Maps (Bool × S)) (perm : IsPermutat
         ∙ ap (λ (b : Bool). xor b true) (fresh-passes s (w .before) (w .fresh))
 
     -- so a first switch swaps exactly if the walk meets its low bit
-    pub walk-value : (i : ℕ) → stageOne K m perm (stand m s i .1) ≡ not (stand m s i .0)
+    walk-value : (i : ℕ) → stageOne K m perm (stand m s i .1) ≡ not (stand m s i .0)
     unfolding side
     walk-value i = xor-true (stageOne K m perm (stand m s i .1)) (stand m s i .0) (walk-side i)
-
-    -- the walk has fewer turns behind it than there are switches
-    pub walk-bound : j < K .count
-    walk-bound = go (decLt (p .rest) j)
-      where
-        p : Period K m perm (true, s)
-        p = period K m perm (true, s)
-
-        go : Dec (p .rest < j) → j < K .count
-        go (yes l) = absurd (w .unclosed (p .rest) l (p .closes))
-        go (no n) = omega (arith, p .short)
 
     -- the next switch is the start, or is unset
     pub walk-next : stand m s (suc j) .1 ≢ s → M (stand m s (suc j) .1) ≡ unset
