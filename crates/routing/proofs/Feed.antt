@@ -11,7 +11,7 @@ use Rattle.routing.specs.Marks.{Marks, set, Given, SetTo}
 use Rattle.routing.specs.Walk.{stand, LoopsSet, LoopsFed, Walk, WalkFed}
 use Rattle.routing.proofs.Stage.{flip-flip, flip-switch, same-switch}
 use Rattle.routing.proofs.Loop.{Numbered, turns-suc, same-on-loop}
-use Rattle.routing.proofs.First.{stageOne, first-valid}
+use Rattle.routing.proofs.First.{firstOf, first-valid}
 use Rattle.routing.proofs.Walk.{walk-side, given-along, given-here, given-still, right-still}
 
 module _ {S : Type 0} (K : Numbered S) (m : Maps (Bool × S)) (perm : IsPermutation m) where
@@ -35,7 +35,7 @@ module _ {S : Type 0} (K : Numbered S) (m : Maps (Bool × S)) (perm : IsPermutat
       go true q e = cc (perm .to-from x, valid (true, q))
 
   abbrev lastOf : S → Bool
-  lastOf q = lastStage m (stageOne K m perm) q
+  lastOf q = lastStage m (firstOf K m perm) q
 
   pub feed-start : {M₀ G : Marks S} (s : S) → LoopsFed (K .index) (K .count) m M₀ G → WalkFed (K .index) (K .count) m M₀ s 0 G
   feed-start s d = record { right = d .right; old = d .fed; behind = λ i h. absurd (omega arith) }
@@ -50,7 +50,7 @@ module _ {S : Type 0} (K : Numbered S) (m : Maps (Bool × S)) (perm : IsPermutat
         record {
           right =
               right-still K m perm d lastOf (p .right)
-              (last-value (stageOne K m perm) (first-valid K m perm) (stand m s j)
+              (last-value (firstOf K m perm) (first-valid K m perm) (stand m s j)
               (walk-side K m perm w j));
           old = λ x g. given-still K m perm d (m .from x .1) (p .old x g);
           behind = λ i h. at i h (decLt i j);

@@ -148,7 +148,7 @@ module _ (n : ℕ) (π ρ : ℕ → ℕ) (perm : Permutes (2 ^ n) π ρ) where
             (brings-realises D (netOf n D) (reads-net n D) brings));
       }
 
--- sets that agree have the same net
+-- controls that agree have the same net
 reads-net-cong :
     (n : ℕ) (C D : StageControls) (N : Net n) → Agree n C D → ReadsNet n D N → ReadsNet n C N
 reads-net-cong n C D N agree r =
@@ -171,7 +171,7 @@ reads-agree n C N r (Butterfly e) =
 reads-agree n C N r (Inverse e) =
     reads-same n (λ e. C (Inverse e)) (flat n (N .inverse)) (N .inverse) (r .inverse) (reads-flat n (N .inverse)) e
 
--- sets that agree bring the same bits
+-- controls that agree bring the same bits
 network-cong :
     (n : ℕ) (C D : StageControls) → Agree n C D → (p : ℕ) → p < 2 ^ n → network n C p ≡ network n D p
 network-cong n C D agree p l =
@@ -183,7 +183,7 @@ network-cong n C D agree p l =
     ∙ sym (network-source n D (netOf n D) r (place n p))
     ∙ ap (network n D) e
 
--- so a set that agrees with the first is the first
+-- so controls that agree with the first are the first
 pub first-cong : (n : ℕ) (π : ℕ → ℕ) (C D : StageControls) → Agree n C D → IsFirst n C π → IsFirst n D π
 first-cong n π C D agree c =
     record {

@@ -1,4 +1,4 @@
--- Stages over the whole width and stages by halves are the same controls.
+-- Controls over the whole width and controls by halves: they say the same, and move bits alike.
 -- Assumes nothing.
 use mathlib.Core.Path.{_≡_, refl, sym, ap, _∙_, subst}
 use mathlib.Core.Bool.{Bool, true, false, cond}
@@ -138,7 +138,7 @@ reads-tree (suc n) c =
     go false l u = l
     go true l u = u
 
--- controls that the same stages have are the same
+-- stages that have the controls of one tree are the same
 reads-inner :
     (n : ℕ) (c d : ℕ → ℕ → Bool)
     → ((h : Bool) → Same n (within n h c) (within n h d))

@@ -113,11 +113,11 @@ module _
     C-last q = rc .inverse .outer q ∙ ap (λ (k : Place n → Bool). k q) (first-last n m perm)
 
     -- switch q of the first stage
-    first-row :
+    first-switch :
         (q : Place n)
         → AgreeBefore (suc n) C D (Butterfly n) (num n q)
         → Leading C D (Butterfly n) (num n q)
-    first-row q agree =
+    first-switch q agree =
         go
         (first-leads (numbered n) m perm f valid q
         (λ t l.
@@ -137,8 +137,8 @@ module _
       first-same : f ≡ ours
       first-same = fun-ext (λ q. sym (rd .butterfly .outer q) ∙ sym (same q) ∙ C-first q)
 
-      last-row : (q : Place n) → C (Inverse n) (num n q) ≡ D (Inverse n) (num n q)
-      last-row q =
+      last-switch : (q : Place n) → C (Inverse n) (num n q) ≡ D (Inverse n) (num n q)
+      last-switch q =
           C-last q
           ∙ ap (λ (k : Place n → Bool). lastStage m k q) (sym first-same)
           ∙ ap (λ (k : Place n → Bool). k q) (sym last-follows)
@@ -187,7 +187,7 @@ module _
           go (no g) =
               let x : n ≡ e = omega arith in
               subst (λ (d : ℕ). AgreeBefore (suc n) C D (Butterfly d) (num n q) → Leading C D (Butterfly d) (num n q)) x
-              (first-row q) agree
+              (first-switch q) agree
       at-place (Inverse e) i q agree = go (decLt e n)
         where
           same : (q : Place n) → C (Butterfly n) (num n q) ≡ D (Butterfly n) (num n q)
@@ -198,7 +198,7 @@ module _
           go (no g) =
               let x : n ≡ e = omega arith in
               subst (λ (d : ℕ). Leading C D (Inverse d) (num n q)) x
-              (inr (last-row same q))
+              (inr (last-switch same q))
 
       leads-step : Leads (suc n) C D
       leads-step c s i agree =

@@ -1,4 +1,4 @@
--- One level: loops close, no loop meets both bits of a switch, and the first stage by least switches is valid and first.
+-- One level: loops close, no loop meets both bits of a switch, a valid stage sends a loop to one side, and a loop has one least switch.
 -- Assumes nothing.
 use mathlib.Core.Path.{_≡_, refl, sym, ap, _∙_}
 use mathlib.Core.Logic.{_⊎_, inl, inr}
@@ -175,10 +175,10 @@ module _ {S : Type 0} (K : Numbered S) (m : Maps (Bool × S)) (perm : IsPermutat
       (ap (λ (u : Bool × S). u .1) (r .ends) ∙ K .injective (y .1) (z .1) e)
 
   -- a loop is met within its period
-  pub within : (x : Bool × S) (p : Period x) (i : ℕ) → (j : ℕ) × (j ≤ p .rest) × (loopTurns m i x ≡ loopTurns m j x)
+  pub within-period : (x : Bool × S) (p : Period x) (i : ℕ) → (j : ℕ) × (j ≤ p .rest) × (loopTurns m i x ≡ loopTurns m j x)
   unfolding loopTurns
-  within x p zero = (0, omega arith, refl)
-  within x p (suc i) = go (within x p i)
+  within-period x p zero = (0, omega arith, refl)
+  within-period x p (suc i) = go (within-period x p i)
     where
       go : (j : ℕ) × (j ≤ p .rest) × (loopTurns m i x ≡ loopTurns m j x) → (j : ℕ) × (j ≤ p .rest) × (loopTurns m (suc i) x ≡ loopTurns m j x)
       go r = at (r .0) (r .1) (turns-suc m perm i x ∙ ap (loopTurn m) (r .2) ∙ sym (turns-suc m perm (r .0) x)) (decLt (r .0) (p .rest))

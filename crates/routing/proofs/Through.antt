@@ -1,4 +1,4 @@
--- Stages by numbers: a stage inside one half, and the stage of the two halves.
+-- Stages by numbers: a stage inside one half, the stage of the two halves; a stage undoes itself, and so the networks undo each other.
 -- Assumes nothing.
 use mathlib.Core.Path.{_≡_, refl, sym, ap, ap₂, _∙_}
 use mathlib.Core.Bool.{Bool, true, false, not, cond}

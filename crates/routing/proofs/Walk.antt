@@ -11,7 +11,7 @@ use Rattle.routing.specs.Marks.{Mark, unset, set, Marks, Given, Right, S
 use Rattle.routing.specs.Walk.{stand, LoopsSet, Walk}
 use Rattle.routing.proofs.Stage.{flip-switch, same-switch}
 use Rattle.routing.proofs.Loop.{Numbered, turn-back, turns-suc, side-turns, same-on-loop, reach-sym, return, repeats}
-use Rattle.routing.proofs.First.{leastOf, least-is, stageOne, first-valid, passes-if-least}
+use Rattle.routing.proofs.First.{leastOf, least-is, firstOf, first-valid, passes-if-least}
 
 given-or-unset : {S : Type 0} (M : Marks S) (s : S) → Given M s ⊎ (M s ≡ unset)
 given-or-unset M s = go (M s) refl
@@ -64,7 +64,7 @@ module _ {S : Type 0} (K : Numbered S) (m : Maps (Bool × S)) (perm : IsPermutat
       record { right = st .right; below = extend st s refl g; closed = st .closed }
 
   -- in the end the stage is the first stage
-  pub settled-end : {M : Marks S} → LoopsSet (K .index) (K .count) m (K .count) M → (s : S) → M s ≡ set (stageOne K m perm s)
+  pub settled-end : {M : Marks S} → LoopsSet (K .index) (K .count) m (K .count) M → (s : S) → M s ≡ set (firstOf K m perm s)
   settled-end {M} st s =
       let g = st .below s (K .small s) in
       g .is ∙ ap set (sym (st .right s (g .value) (g .is)))
@@ -75,7 +75,7 @@ module _ {S : Type 0} (K : Numbered S) (m : Maps (Bool × S)) (perm : IsPermutat
   closed-turns st (suc j) x g = closed-turns st j (loopTurn m x) (st .closed x g)
 
   -- an unset switch with all below it set is the least of its loop
-  fresh-passes : {M : Marks S} (s : S) → LoopsSet (K .index) (K .count) m (K .index s) M → M s ≡ unset → stageOne K m perm s ≡ pass
+  fresh-passes : {M : Marks S} (s : S) → LoopsSet (K .index) (K .count) m (K .index s) M → M s ≡ unset → firstOf K m perm s ≡ pass
   fresh-passes {M} s st none =
       passes-if-least K m perm s
       (λ l.
@@ -122,7 +122,7 @@ module _ {S : Type 0} (K : Numbered S) (m : Maps (Bool × S)) (perm : IsPermutat
       record {
         before = st;
         fresh = none;
-        right = right-still d (stageOne K m perm) (st .right) (fresh-passes s st none);
+        right = right-still d (firstOf K m perm) (st .right) (fresh-passes s st none);
         kept = given-still d;
         walked = λ i h. at i h;
         only = λ t g. whence t (given-only d t g);
@@ -139,16 +139,16 @@ module _ {S : Type 0} (K : Numbered S) (m : Maps (Bool × S)) (perm : IsPermutat
 
   module _ {M₀ M : Marks S} {s : S} {j : ℕ} (w : Walk (K .index) (K .count) m M₀ s j M) where
     -- the bits of the walk go to the upper side
-    pub walk-side : (i : ℕ) → side (stageOne K m perm) (stand m s i) ≡ true
+    pub walk-side : (i : ℕ) → side (firstOf K m perm) (stand m s i) ≡ true
     unfolding side
     walk-side i =
-        side-turns m perm (stageOne K m perm) (first-valid K m perm) i (true, s)
+        side-turns m perm (firstOf K m perm) (first-valid K m perm) i (true, s)
         ∙ ap (λ (b : Bool). xor b true) (fresh-passes s (w .before) (w .fresh))
 
     -- so a first switch swaps exactly if the walk meets its low bit
-    walk-value : (i : ℕ) → stageOne K m perm (stand m s i .1) ≡ not (stand m s i .0)
+    walk-value : (i : ℕ) → firstOf K m perm (stand m s i .1) ≡ not (stand m s i .0)
     unfolding side
-    walk-value i = xor-true (stageOne K m perm (stand m s i .1)) (stand m s i .0) (walk-side i)
+    walk-value i = xor-true (firstOf K m perm (stand m s i .1)) (stand m s i .0) (walk-side i)
 
     -- the next switch is the start, or is unset
     pub walk-next : stand m s (suc j) .1 ≢ s → M (stand m s (suc j) .1) ≡ unset
@@ -182,7 +182,7 @@ module _ {S : Type 0} (K : Numbered S) (m : Maps (Bool × S)) (perm : IsPermutat
         record {
           before = w .before;
           fresh = w .fresh;
-          right = right-still d (stageOne K m perm) (w .right) (walk-value (suc j));
+          right = right-still d (firstOf K m perm) (w .right) (walk-value (suc j));
           kept = λ t g. given-still d t (w .kept t g);
           walked = λ i h. at i h (decLt j i);
           only = λ t g. whence t (given-only d t g);
