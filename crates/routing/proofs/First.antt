@@ -17,7 +17,6 @@ use Rattle.routing.proofs.Loop.{
   same-on-loop,
   IsLeast,
   least-unique,
-  least-on,
   period,
   within-period,
   reach-sym,
@@ -52,12 +51,21 @@ module _ {S : Type 0} (K : Numbered S) (m : Maps (Bool × S)) (perm : IsPermutat
       omega
       (arith, pick-le x (least (K .index) m k (loopTurn m x)) .le-right, least-le k (loopTurn m x) i (omega arith))
 
+  least-on : (k : ℕ) (x : Bool × S) → Reach m x (least (K .index) m k x)
+  unfolding least loopTurns
+  least-on zero x = record { steps = 0; ends = refl }
+  least-on (suc k) x = go (leb (K .index (x .1)) (K .index (least (K .index) m k (loopTurn m x) .1))) (least-on k (loopTurn m x))
+    where
+      go : (b : Bool) → Reach m (loopTurn m x) (least (K .index) m k (loopTurn m x)) → Reach m x (cond b x (least (K .index) m k (loopTurn m x)))
+      go true r = record { steps = 0; ends = refl }
+      go false r = record { steps = suc (r .steps); ends = r .ends }
+
   pub leastOf : Bool × S → Bool × S
   leastOf x = least (K .index) m (K .count) x
 
   pub least-is : (x : Bool × S) → IsLeast K m perm x (leastOf x)
   unfolding leastOf
-  least-is x = record { on = least-on K m perm (K .count) x; least-of = λ z r. bound z r }
+  least-is x = record { on = least-on (K .count) x; least-of = λ z r. bound z r }
     where
       bound : (z : Bool × S) → Reach m x z → K .index (least (K .index) m (K .count) x .1) ≤ K .index (z .1)
       bound z r =

@@ -2,13 +2,12 @@
 -- Assumes nothing.
 use mathlib.Core.Path.{_≡_, refl, sym, ap, _∙_}
 use mathlib.Core.Logic.{_⊎_, inl, inr}
-use mathlib.Core.Bool.{Bool, true, false, cond}
+use mathlib.Core.Bool.{Bool}
 use Prim.Native.Nat.{ℕ, zero, suc, _+_, _-_, _≤_, _<_}
 use native.Mathlib.Nat.{suc-add, zero-add, add-comm}
 use native.Mathlib.Decide.{decLt}
 use native.Mathlib.Omega.{arith}
-use lib.Dec.{leb}
-use Rattle.routing.specs.Loop.{Maps, IsPermutation, flip, side, Valid, loopTurn, loopTurns, least}
+use Rattle.routing.specs.Loop.{Maps, IsPermutation, flip, side, Valid, loopTurn, loopTurns}
 use Rattle.routing.proofs.Finite.{pigeonhole}
 use Rattle.routing.proofs.Stage.{not-not, flip-flip, flip-ne, same-switch, side-flip}
 
@@ -186,12 +185,3 @@ module _ {S : Type 0} (K : Numbered S) (m : Maps (Bool × S)) (perm : IsPermutat
           at : (j : ℕ) → j ≤ p .rest → loopTurns m (suc i) x ≡ loopTurns m (suc j) x → Dec (j < p .rest) → (j : ℕ) × (j ≤ p .rest) × (loopTurns m (suc i) x ≡ loopTurns m j x)
           at j h e (yes l) = (suc j, l, e)
           at j h e (no g) = let q : j ≡ p .rest = omega arith in (0, omega arith, e ∙ ap (λ (k : ℕ). loopTurns m (suc k) x) q ∙ p .closes)
-
-  pub least-on : (k : ℕ) (x : Bool × S) → Reach m x (least (K .index) m k x)
-  unfolding least loopTurns
-  least-on zero x = record { steps = 0; ends = refl }
-  least-on (suc k) x = go (leb (K .index (x .1)) (K .index (least (K .index) m k (loopTurn m x) .1))) (least-on k (loopTurn m x))
-    where
-      go : (b : Bool) → Reach m (loopTurn m x) (least (K .index) m k (loopTurn m x)) → Reach m x (cond b x (least (K .index) m k (loopTurn m x)))
-      go true r = record { steps = 0; ends = refl }
-      go false r = record { steps = suc (r .steps); ends = r .ends }
