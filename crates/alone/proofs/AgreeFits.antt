@@ -8,13 +8,14 @@ use native.Mathlib.Numerals.{add-one}
 use native.Mathlib.Omega.{arith}
 use lib.Bits.{bitAnd}
 use lib.Dec.{eqb}
+use lib.ListN.{length}
 use lib.Pow.{pow-mono}
 use borrow.Author.Tests.{eq-eqb}
 use Rattle.network.specs.Calls.{six}
 use Rattle.routing.specs.Alone.{everyBelow}
 use Rattle.routing.specs.Stages.{butterfly, inverse}
 use Rattle.routing.specs.Lists.{entry, ListPermutes, butterflyFrom, inverseFrom, butterflyAlone, inverseAlone}
-use Rattle.routing.proofs.Flat.{butterfly-inverse, inverse-butterfly}
+use Rattle.routing.proofs.Through.{butterfly-inverse, inverse-butterfly}
 use Rattle.routing.proofs.Alone.{tested-equal, equal-tested}
 use Rattle.routing.proofs.AloneWords.{butterfly-brings, inverse-brings, butterfly-only, inverse-only}
 use Rattle.alone.specs.declared.Found.{Found}
@@ -132,7 +133,7 @@ module _
             inverse-only n entries is c
             (λ p l.
             ap (inverse n c) (sym (k p l .1) ∙ sym (routed p l) ∙ ap (butterfly n c) (k p l .0))
-            ∙ inverse-butterfly n c (entry entries p) (is .small p l))
+            ∙ inverse-butterfly n c (entry entries p))
         go false k =
             butterfly-only n entries is c (λ p l. ap (butterfly n c) (sym (k p l .0)) ∙ routed p l ∙ k p l .1)
 
@@ -150,12 +151,12 @@ module _
             → Routed places sources (2 ^ n) n (defined b)
         go true k e p l =
             ap (butterfly n (defined true)) (k p l .0 ∙ sym (inverse-brings n entries is e p l))
-            ∙ butterfly-inverse n (defined true) p l
+            ∙ butterfly-inverse n (defined true) p
             ∙ sym (k p l .1)
         go false k e p l =
             ap (butterfly n (defined false)) (k p l .0) ∙ butterfly-brings n entries is e p l ∙ sym (k p l .1)
 
-    pub answer :
+    answer :
         {r : Found}
         → Within (2 ^ n) places
         → Within (2 ^ n) sources
@@ -188,24 +189,32 @@ module _ (n : ℕ) (h : n ≤ 6) (entries every : List ℕ) (is : ListPermutes (
   at-place : (p : ℕ) → p < 2 ^ n → entry every p ≡ p
   at-place p l = all .1 p (omega (arith, pow-mono h))
 
-  pub every-within : Within (2 ^ n) every
+  every-within : Within (2 ^ n) every
   every-within = record { long = omega (arith, pow-mono h, all .0); small = λ p l. omega (arith, at-place p l) }
 
-  pub entries-within : Within (2 ^ n) entries
+  entries-within : Within (2 ^ n) entries
   entries-within = record { long = omega (arith, is .long); small = is .small }
 
-  pub answer-inverse :
-      {rising : Bool} {r : Found}
-      → rising ≡ true
-      → Answers (agree true n entries every) (stageWords true n (unasked true entries every (2 ^ n))) r
-      → Answers (fitsAlone rising n entries) (alone rising n entries) r
-  answer-inverse q f =
-      rw q (answer true n entries entries every is (λ p l. (refl, at-place p l)) entries-within every-within f)
+  -- the entries are the places of the inverse (rising), and the sources of the butterfly
+  abbrev places : Bool → List ℕ
+  places rising = cond rising entries every
 
-  pub answer-butterfly :
-      {rising : Bool} {r : Found}
-      → rising ≡ false
-      → Answers (agree false n every entries) (stageWords false n (unasked true every entries (2 ^ n))) r
+  abbrev sources : Bool → List ℕ
+  sources rising = cond rising every entries
+
+  linked : (rising : Bool) → Linked rising n entries (places rising) (sources rising)
+  linked true p l = (refl, at-place p l)
+  linked false p l = (at-place p l, refl)
+
+  pub lists-fit : (rising : Bool) → (n ≤ 6) × (length entries ≡ 2 ^ n) × Within (2 ^ n) (places rising) × Within (2 ^ n) (sources rising)
+  lists-fit true = (h, is .long, entries-within, every-within)
+  lists-fit false = (h, is .long, every-within, entries-within)
+
+  pub answer-of :
+      (b : Bool) {rising : Bool} {r : Found}
+      → rising ≡ b
+      → Answers (agree b n (places b) (sources b)) (stageWords b n (unasked true (places b) (sources b) (2 ^ n))) r
       → Answers (fitsAlone rising n entries) (alone rising n entries) r
-  answer-butterfly q f =
-      rw q (answer false n entries every entries is (λ p l. (at-place p l, refl)) every-within entries-within f)
+  answer-of b q f =
+      let w = lists-fit b in
+      rw q (answer b n entries (places b) (sources b) is (linked b) (w .2) (w .3) f)

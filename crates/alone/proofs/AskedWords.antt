@@ -2,19 +2,16 @@
 -- Assumes nothing.
 use mathlib.Core.Path.{_≡_, refl, sym, ap, ap₂, _∙_}
 use mathlib.Core.Bool.{Bool, true, false, cond, _&&_}
-use Prim.Native.Nat.{ℕ, zero, suc, _+_, _-_, _*_, _/_, _^_, _≤_, _<_, min, max}
-use native.Mathlib.Nat.{one-mul, add-zero}
-use native.Mathlib.Decide.{decLt}
+use Prim.Native.Nat.{ℕ, _-_, _/_, _^_, _<_, min, max}
 use native.Mathlib.Omega.{arith}
 use lib.Dec.{eqb}
 use lib.Bits.{bitAnd, bitOr, or-lt, or-zero-r, and-le-r}
 use lib.ListN.{length, getD}
 use lib.Pow.{pow-pos, pow-lt}
-use borrow.Author.Tests.{eqb-true, eqb-false}
 use Rattle.bits.specs.Bit.{bit}
 use Rattle.bits.proofs.Word.{bit-of-zero, bit-and, bit-or, bit-pow, ext}
 use Rattle.routing.specs.Loop.{pass}
-use Rattle.routing.specs.Lists.{wordOf, butterflyWords, inverseWords}
+use Rattle.routing.specs.Lists.{wordOf}
 use Rattle.routing.proofs.StageWords.{word-small, word-bit, length-butterfly, length-inverse, butterfly-word, inverse-word}
 use Rattle.alone.specs.Asked.{crossed, asks, asked, stageAt, stageWords}
 
@@ -80,7 +77,6 @@ module _ (w : ℕ) (c d : ℕ → Bool) where
       absurd (omega (arith, one, ap (λ (x : ℕ). bit x s) e, bit-of-zero s))
 
 -- the stages in the direction of travel
-
 pub length-stages : (rising : Bool) (n : ℕ) (c : ℕ → ℕ → Bool) → length (stageWords rising n c) ≡ n
 unfolding stageWords
 length-stages true n c = length-inverse (2 ^ n / 2) 0 n c

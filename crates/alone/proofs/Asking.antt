@@ -11,6 +11,7 @@ use borrow.Author.Tests.{eqb-true, eq-eqb}
 use Rattle.routing.specs.Loop.{pass, swap}
 use Rattle.routing.specs.Stages.{butterfly}
 use Rattle.routing.specs.Lists.{entry}
+use Rattle.routing.proofs.Stage.{not-not}
 use Rattle.alone.specs.Asked.{crossed, straight, asks, unasked, Within}
 use Rattle.alone.proofs.Route.{route-straight, straight-brings}
 
@@ -88,10 +89,6 @@ module _ (places sources : List ℕ) (k n : ℕ) where
       let x : d e s ≡ pass = asked-only true places sources e (λ s. d e s ≡ pass) k (λ p l q. does p l ∙ ap not q) s t in
       let y : d e s ≡ swap = asked-only false places sources e (λ s. d e s ≡ swap) k (λ p l q. does p l ∙ q) s u in
       absurd (false≢true (sym x ∙ y))
-    where
-      not-not : (b : Bool) → not (not b) ≡ b
-      not-not true = refl
-      not-not false = refl
 
   -- and routes that agree are those of the controls that they ask for
   free-straight :

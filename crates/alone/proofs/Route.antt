@@ -26,16 +26,16 @@ odd-above e x odd = go (decLt x (2 ^ e))
     go (no n) = omega arith
 
 -- the other number of an even one and the next
-abbrev other : ℕ → ℕ
-other u = u / 2 * 2 + (1 - u % 2)
+abbrev paired : ℕ → ℕ
+paired u = u / 2 * 2 + (1 - u % 2)
 
 -- The partner has bit e changed, and a stage changes no other.
 module _ (e x : ℕ) where
-  partner-high : partnerAt e x / 2 ^ e ≡ other (x / 2 ^ e)
+  partner-high : partnerAt e x / 2 ^ e ≡ paired (x / 2 ^ e)
   unfolding partnerAt
   partner-high = go (eqb (x / 2 ^ e % 2) 0) refl
     where
-      go : (b : Bool) → eqb (x / 2 ^ e % 2) 0 ≡ b → cond b (x + 2 ^ e) (x - 2 ^ e) / 2 ^ e ≡ other (x / 2 ^ e)
+      go : (b : Bool) → eqb (x / 2 ^ e % 2) 0 ≡ b → cond b (x + 2 ^ e) (x - 2 ^ e) / 2 ^ e ≡ paired (x / 2 ^ e)
       go true t = omega (arith, add-div-right x (pow-pos e), eqb-true (x / 2 ^ e % 2) 0 t)
       go false t =
           let odd = eqb-false (x / 2 ^ e % 2) 0 t in
@@ -50,11 +50,11 @@ module _ (e x : ℕ) where
       go false t = sym (mod-eq-sub-mod (odd-above e x (eqb-false (x / 2 ^ e % 2) 0 t)))
 
 module _ (e : ℕ) (c : ℕ → Bool) (x : ℕ) where
-  through-high : through e c x / 2 ^ e ≡ cond (c (switchAt e x)) (other (x / 2 ^ e)) (x / 2 ^ e)
+  through-high : through e c x / 2 ^ e ≡ cond (c (switchAt e x)) (paired (x / 2 ^ e)) (x / 2 ^ e)
   unfolding through
   through-high = go (c (switchAt e x))
     where
-      go : (b : Bool) → cond b (partnerAt e x) x / 2 ^ e ≡ cond b (other (x / 2 ^ e)) (x / 2 ^ e)
+      go : (b : Bool) → cond b (partnerAt e x) x / 2 ^ e ≡ cond b (paired (x / 2 ^ e)) (x / 2 ^ e)
       go true = partner-high e x
       go false = refl
 
@@ -69,7 +69,7 @@ module _ (e : ℕ) (c : ℕ → Bool) (x : ℕ) where
   through-above : through e c x / 2 ^ suc e ≡ x / 2 ^ suc e
   through-above = half-above e (through e c x) ∙ go (c (switchAt e x)) through-high ∙ sym (half-above e x)
     where
-      go : (b : Bool) → through e c x / 2 ^ e ≡ cond b (other (x / 2 ^ e)) (x / 2 ^ e) → through e c x / 2 ^ e / 2 ≡ x / 2 ^ e / 2
+      go : (b : Bool) → through e c x / 2 ^ e ≡ cond b (paired (x / 2 ^ e)) (x / 2 ^ e) → through e c x / 2 ^ e / 2 ≡ x / 2 ^ e / 2
       go true h = omega arith
       go false h = omega arith
 
@@ -137,7 +137,7 @@ module _ (n : ℕ) (c : ℕ → ℕ → Bool) (a b e : ℕ) (brings : butterfly 
       go :
           (d : Bool)
           → through e (c e) (butterfly e c a) / 2 ^ e
-          ≡ cond d (other (butterfly e c a / 2 ^ e)) (butterfly e c a / 2 ^ e)
+          ≡ cond d (paired (butterfly e c a / 2 ^ e)) (butterfly e c a / 2 ^ e)
           → eqb (a / 2 ^ e % 2) (b / 2 ^ e % 2) ≡ not d
       go true t = ne-eqb (a / 2 ^ e % 2) (b / 2 ^ e % 2) (λ q. absurd (omega (arith, butterfly-high e c a, source-bit)))
       go false t = eq-eqb (a / 2 ^ e % 2) (b / 2 ^ e % 2) (omega (arith, butterfly-high e c a, source-bit))
@@ -158,7 +158,7 @@ module _ (c : ℕ → ℕ → Bool) (a b : ℕ) where
 
       go :
           (d : Bool)
-          → through e (c e) x / 2 ^ e ≡ cond d (other (x / 2 ^ e)) (x / 2 ^ e)
+          → through e (c e) x / 2 ^ e ≡ cond d (paired (x / 2 ^ e)) (x / 2 ^ e)
           → eqb (a / 2 ^ e % 2) (b / 2 ^ e % 2) ≡ not d
           → through e (c e) x / 2 ^ e % 2 ≡ b / 2 ^ e % 2
       go true h t = let n = eqb-false (a / 2 ^ e % 2) (b / 2 ^ e % 2) t in omega (arith, butterfly-high e c a)

@@ -7,15 +7,13 @@ use Prim.Native.Nat.{ℕ, suc, _+_, _*_, _^_, _≤_, _<_}
 use native.Mathlib.Omega.{arith}
 use lib.ListN.{getD}
 use Rattle.routing.specs.Place.{weight}
-use Rattle.routing.specs.Net.{firstNet}
-use Rattle.routing.specs.Stages.{Stage, Butterfly, Inverse, exponent, StageControls}
-use Rattle.routing.specs.FirstControls.{Permutes, onPlaces}
+use Rattle.routing.specs.Stages.{Stage, Butterfly, Inverse, exponent, StageControls, Agree}
+use Rattle.routing.specs.FirstControls.{Permutes, firstControls}
 use Rattle.routing.specs.Level.{firstSwap, lastSwap, halfTo, halfFrom}
 use Rattle.routing.proofs.Through.{within}
 use Rattle.routing.proofs.WalkSteps.{Set, done-end}
-use Rattle.routing.proofs.FirstControls.{on-places-cong, reads-net-cong}
-use Rattle.routing.proofs.Leads.{ReadsNet}
-use Rattle.routing.proofs.Level.{ReadsFirst, reads-none, half-permutes, reads-step}
+use Rattle.routing.proofs.FirstControls.{first-controls-cong}
+use Rattle.routing.proofs.Level.{half-permutes, first-step}
 use Rattle.first.specs.Marks.{markSwaps, markOf, row, marksAt, swapsFrom, controlsIn, InOuter, InBlock, Kept}
 use Rattle.first.specs.Blocks.{placeIn, BlockPermutes, PlacesKept, Peeled, Routable, BlockRouted}
 use Rattle.first.proofs.Storing.{mark-swaps}
@@ -99,16 +97,13 @@ module _
           long = p .stepped .settled .long;
           to-long = p .to-halved .long ∙ r .to-long;
           from-long = p .from-halved .long ∙ r .from-long;
-          reads =
-              reads-step e π ρ (r .perm) f g is-first is-last (controlsIn b marks₁) (λ s l. refl) (λ s l. refl)
-              (λ h. none (within e h (controlsIn b marks₁)) (halfTo e π g h) (halfFrom e ρ f h));
+          first =
+              first-step e π ρ (r .perm) f g is-first is-last (controlsIn b marks₁) (λ s l. refl) (λ s l. refl)
+              (λ h c s i. absurd (omega (arith, i .at-stage)));
           kept = outer-kept;
           to-kept = p .to-halved .kept;
           from-kept = p .from-halved .kept;
         }
-      where
-        none : (C : StageControls) (α β : ℕ → ℕ) → ReadsFirst e C α β
-        none C α β = subst (λ (j : ℕ). ReadsFirst j C α β) (sym z) (reads-none C α β)
 
     module _ (k : ℕ) (ek : e ≡ suc k) where
       two : 2 ^ e ≡ 2 ^ k + 2 ^ k
@@ -135,8 +130,8 @@ module _
                 (record { inner = omega (arith, z .inner); low = z .low; high = omega (arith, z .high, two) });
           }
 
-      -- what a routed half reads, in the whole
-      half-reads :
+      -- a routed half has the first controls of its part of the permutation
+      half-first :
           (h : Bool) (b′ : ℕ) (to′ from′ marks′ marks″ : List ℕ)
           → ((q : ℕ) → q < 2 ^ e → placeIn to′ b′ q ≡ placeIn to₁ b (weight h e + q))
           → ((q : ℕ) → q < 2 ^ e → placeIn from′ b′ q ≡ placeIn from₁ b (weight h e + q))
@@ -144,20 +139,19 @@ module _
           → exponent c ≤ k
           → s < 2 ^ k
           → getD marks″ (row c + b + (weight h k + s)) 0 ≡ getD marks′ (row c + b′ + s) 0)
-          → ReadsFirst (suc k) (controlsIn b′ marks′) (placeIn to′ b′) (placeIn from′ b′)
-          → ReadsFirst e (within e h (controlsIn b marks″)) (halfTo e π g h) (halfFrom e ρ f h)
-      half-reads h b′ to′ from′ marks′ marks″ ts fs same reads =
+          → Agree (suc k) (controlsIn b′ marks′) (firstControls (suc k) (placeIn to′ b′) (placeIn from′ b′))
+          → Agree e (within e h (controlsIn b marks″)) (firstControls e (halfTo e π g h) (halfFrom e ρ f h))
+      half-first h b′ to′ from′ marks′ marks″ ts fs same first c s i =
           let C = controlsIn b marks″ in
-          let maps =
-          on-places-cong e (placeIn to′ b′) (placeIn from′ b′) (halfTo e π g h) (halfFrom e ρ f h)
-          (λ q l. ts q l ∙ p .to-halved .halves h q l)
-          (λ q l. fs q l ∙ p .from-halved .halves h q l) in
-          let here = subst (λ (j : ℕ). ReadsFirst j (controlsIn b′ marks′) (placeIn to′ b′) (placeIn from′ b′)) (sym ek) reads in
-          reads-net-cong e (within e h C) (controlsIn b′ marks′) (firstNet e (onPlaces e (halfTo e π g h) (halfFrom e ρ f h)))
-          (λ c s i.
+          let here =
+          subst (λ (j : ℕ). Agree j (controlsIn b′ marks′) (firstControls j (placeIn to′ b′) (placeIn from′ b′))) (sym ek) first in
           subst (λ (j : ℕ). within j h C c s ≡ C c (weight h k + s)) (sym ek) refl
-          ∙ ap markSwaps (same c s (omega (arith, i .at-stage)) (omega (arith, i .switch, two))))
-          (subst (ReadsNet e (controlsIn b′ marks′)) (ap (firstNet e) maps) here)
+          ∙ ap markSwaps (same c s (omega (arith, i .at-stage)) (omega (arith, i .switch, two)))
+          ∙ here c s i
+          ∙ ap (λ (D : StageControls). D c s)
+          (first-controls-cong e (placeIn to′ b′) (placeIn from′ b′) (halfTo e π g h) (halfFrom e ρ f h)
+          (λ q l. ts q l ∙ p .to-halved .halves h q l)
+          (λ q l. fs q l ∙ p .from-halved .halves h q l))
 
       module _
           (b′ : ℕ)
@@ -211,33 +205,24 @@ module _
                 (kept-at (InBlock k b′) c b s marks₂ marks₃ (upper .kept) he hs (λ o. absurd (omega (arith, o .inner)))
                 ∙ kept-at (InBlock k b) c b s marks₁ marks₂ (lower .kept) he hs (λ o. absurd (omega (arith, o .inner))))
 
-            reads-lower :
-                ReadsFirst e (within e false (controlsIn b marks₃)) (halfTo e π g false) (halfFrom e ρ f false)
+            halves : (h : Bool) → Agree e (within e h (controlsIn b marks₃)) (firstControls e (halfTo e π g h) (halfFrom e ρ f h))
             unfolding weight
-            reads-lower =
-                half-reads false b to₁ from₁ marks₂ marks₃ (λ q l. low-place to₁ q) (λ q l. low-place from₁ q)
+            halves false =
+                half-first false b to₁ from₁ marks₂ marks₃ (λ q l. low-place to₁ q) (λ q l. low-place from₁ q)
                 (λ c s he l.
                 let i : row c + b + (0 + s) ≡ row c + b + s = omega arith in
                 ap (λ (i : ℕ). getD marks₃ i 0) i
                 ∙ kept-at (InBlock k b′) c b s marks₂ marks₃ (upper .kept) (omega (arith, r .fits .stage))
                 (omega (arith, r .fits .room, two)) (λ o. absurd (omega (arith, o .low))))
-                (lower .reads)
-
-            reads-upper :
-                ReadsFirst e (within e true (controlsIn b marks₃)) (halfTo e π g true) (halfFrom e ρ f true)
-            unfolding weight
-            reads-upper =
-                half-reads true b′ to₂ from₂ marks₃ marks₃
+                (lower .first)
+            halves true =
+                half-first true b′ to₂ from₂ marks₃ marks₃
                 (λ q l. high to₁ to₂ (lower .to-kept) q)
                 (λ q l. high from₁ from₂ (lower .from-kept) q)
                 (λ c s he l.
                 let i : row c + b + (2 ^ k + s) ≡ row c + b′ + s = omega arith in
                 ap (λ (i : ℕ). getD marks₃ i 0) i)
-                (upper .reads)
-
-            halves : (h : Bool) → ReadsFirst e (within e h (controlsIn b marks₃)) (halfTo e π g h) (halfFrom e ρ f h)
-            halves false = reads-lower
-            halves true = reads-upper
+                (upper .first)
 
             inside : (l l′ l″ l‴ : List ℕ) → PlacesKept e b l l′ → PlacesKept k b l′ l″ → PlacesKept k b′ l″ l‴ → PlacesKept e b l l‴
             inside l l′ l″ l‴ x y z i out =
@@ -252,8 +237,8 @@ module _
                   long = upper .long;
                   to-long = upper .to-long;
                   from-long = upper .from-long;
-                  reads =
-                      reads-step e π ρ (r .perm) f g is-first is-last (controlsIn b marks₃)
+                  first =
+                      first-step e π ρ (r .perm) f g is-first is-last (controlsIn b marks₃)
                       (λ s l. outer-same (Butterfly e) s refl l)
                       (λ s l. outer-same (Inverse e) s refl l)
                       halves;

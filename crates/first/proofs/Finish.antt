@@ -2,28 +2,20 @@
 -- Assumes nothing.
 use mathlib.Core.Path.{_≡_, sym, ap, _∙_, subst}
 use mathlib.Core.List.{List, []}
-use Prim.Native.Nat.{ℕ, suc, _+_, _-_, _^_, _≤_, _<_}
+use Prim.Native.Nat.{ℕ, suc, _+_, _^_, _≤_, _<_}
 use native.Mathlib.Omega.{arith}
 use lib.Pow.{pow-mono}
 use lib.ListN.{length, getD, replicate, length-replicate, getD-replicate}
 use Rattle.network.specs.Calls.{six}
-use Rattle.routing.specs.Stages.{StageControls}
-use Rattle.routing.specs.FirstControls.{Permutes, IsFirst}
-use Rattle.routing.specs.Lists.{entry, ListPermutes, butterflyWords, inverseWords, wordsOf, firstWords}
-use Rattle.routing.proofs.FirstControls.{reads-first}
-use Rattle.routing.proofs.StageWords.{first-words-unique}
+use Rattle.routing.specs.Stages.{Agree}
+use Rattle.routing.specs.FirstControls.{Permutes, firstControls}
+use Rattle.routing.specs.Lists.{find, entry, ListPermutes, controlsOf, butterflyWords, inverseWords, wordsOf, firstWords}
+use Rattle.routing.proofs.FirstControls.{first-controls-cong, inverse-unique}
+use Rattle.routing.proofs.ListControls.{list-permutes}
+use Rattle.routing.proofs.StageWords.{words-cong}
 use Rattle.first.specs.Marks.{row, controlsIn}
 use Rattle.first.specs.Blocks.{placeIn, Routable, BlockRouted, Placed}
 use Rattle.first.proofs.Storing.{slot-small, mark-unset}
-
--- only the entries that the network has count
-first-same :
-    (n : ℕ) (C : StageControls) (π π′ : ℕ → ℕ) → ((p : ℕ) → p < 2 ^ n → π p ≡ π′ p) → IsFirst n C π → IsFirst n C π′
-first-same n C π π′ same is =
-    record {
-      brings = λ p l. is .brings p l ∙ same p l;
-      others = λ D brings. is .others D (λ p l. brings p l ∙ sym (same p l));
-    }
 
 -- one place has no stages
 pub no-butterfly : (log : ℕ) (entries : List ℕ) → log ≡ 0 → six [] ≡ six (firstWords log entries .butterfly)
@@ -63,10 +55,15 @@ module _ (log : ℕ) (entries : List ℕ) (small : log ≤ 6) (is : ListPermutes
         (to′ from′ marks′ : List ℕ)
         → BlockRouted e 0 to from (replicate 384 1) to′ from′ marks′
         → wordsOf log (controlsIn 0 marks′) ≡ firstWords log entries
+    unfolding firstWords controlsOf
     routed-first to′ from′ marks′ routed =
+        let π = placeIn to 0 in
+        let ρ = placeIn from 0 in
         let C = controlsIn 0 marks′ in
-        let first =
-        reads-first (suc e) (placeIn to 0) (placeIn from 0) (all-routable .perm) C (routed .reads) in
-        let whole = subst (λ (n : ℕ). IsFirst n C (placeIn to 0)) (sym one) first in
-        first-words-unique log entries is C
-        (first-same log C (placeIn to 0) (entry entries) (λ p l. placed .same p (omega (arith, is .long))) whole)
+        let perm = subst (λ (w : ℕ). Permutes w π ρ) (is .long) (placed .perm) in
+        let same : (p : ℕ) → p < 2 ^ log → π p ≡ entry entries p = λ p l. placed .same p (omega (arith, is .long)) in
+        words-cong log C (firstControls log π ρ)
+        (subst (λ (n : ℕ). Agree n C (firstControls n π ρ)) (sym one) (routed .first))
+        ∙ ap (wordsOf log)
+        (first-controls-cong log π ρ (entry entries) (λ x. find x entries) same
+        (inverse-unique (2 ^ log) π ρ (entry entries) (λ x. find x entries) perm (list-permutes (2 ^ log) entries is) same))

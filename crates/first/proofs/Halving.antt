@@ -12,12 +12,9 @@ use lib.Seq.{getD-set-same, getD-set-other}
 use Rattle.routing.specs.Place.{weight}
 use Rattle.routing.specs.Loop.{xor}
 use Rattle.routing.specs.Level.{halfTo}
+use Rattle.routing.proofs.Stage.{xor-false}
 use Rattle.first.specs.Marks.{BlockFits}
 use Rattle.first.specs.Blocks.{placeIn, PlacesKept, Halved}
-
-xor-low : (b : Bool) → xor b false ≡ b
-xor-low true = refl
-xor-low false = refl
 
 xor-high : (b : Bool) → xor b true ≡ not b
 xor-high true = refl
@@ -87,7 +84,7 @@ module _ (e b : ℕ) (g : ℕ → Bool) (entries : List ℕ) where
           ∙ getD-set-same now (2 * b + k) lower 0 room
           ∙ lq
           ∙ ap (λ (x : ℕ). x % 2 ^ e) (was (g k))
-          ∙ ap (λ (h : Bool). placeIn entries b (weight h e + k) % 2 ^ e) (sym (xor-low (g k)))
+          ∙ ap (λ (h : Bool). placeIn entries b (weight h e + k) % 2 ^ e) (sym (xor-false (g k)))
 
       turn : HalvedBelow (suc k) next
       unfolding next

@@ -10,8 +10,9 @@ use lib.Dec.{eqb}
 use lib.Pow.{pow-mono}
 use lib.ListN.{length, getD}
 use Rattle.routing.specs.Stages.{Stage, Butterfly, Inverse}
-use Rattle.routing.specs.Lists.{wordOf, butterflyWords, inverseWords, Words, wordsOf}
-use Rattle.routing.proofs.StageWords.{word-small}
+use Rattle.routing.specs.Lists.{wordOf, Words, wordsOf}
+use Rattle.routing.proofs.StageWords.{word-small, length-butterfly, length-inverse}
+use Rattle.routing.proofs.StageWords as stage
 use Rattle.first.specs.Marks.{markSwaps, row, swapsFrom, controlsIn}
 
 -- a control bit brought to its switch
@@ -42,74 +43,46 @@ module _ (marks : List ℕ) (at s : ℕ) (l : s < 32) {out bit : ℕ} (is : out 
 pub word-narrow : (k : ℕ) (c : ℕ → Bool) → k ≤ 32 → wordOf k c < 2 ^ 32
 word-narrow k c l = omega (arith, word-small k c, pow-mono l)
 
--- the words of all stages, in the direction of travel
-butterfly-long : (w k : ℕ) (c : ℕ → ℕ → Bool) → length (butterflyWords w k c) ≡ k
-unfolding butterflyWords
-butterfly-long w zero c = refl
-butterfly-long w (suc k) c = ap suc (butterfly-long w k c)
-
-butterfly-at :
-    (w k : ℕ) (c : ℕ → ℕ → Bool) (i : ℕ) → i < k → getD (butterflyWords w k c) i 0 ≡ wordOf w (c (k - 1 - i))
-unfolding butterflyWords
-butterfly-at w zero c i l = absurd (omega arith)
-butterfly-at w (suc k) c zero l = let z : k ≡ suc k - 1 - 0 = omega arith in ap (λ (e : ℕ). wordOf w (c e)) z
-butterfly-at w (suc k) c (suc i) l =
-    let z : k - 1 - i ≡ suc k - 1 - suc i = omega arith in
-    butterfly-at w k c i (omega arith) ∙ ap (λ (e : ℕ). wordOf w (c e)) z
-
-inverse-long : (w e k : ℕ) (c : ℕ → ℕ → Bool) → length (inverseWords w e k c) ≡ k
-unfolding inverseWords
-inverse-long w e zero c = refl
-inverse-long w e (suc k) c = ap suc (inverse-long w (suc e) k c)
-
-inverse-at :
-    (w e k : ℕ) (c : ℕ → ℕ → Bool) (i : ℕ) → i < k → getD (inverseWords w e k c) i 0 ≡ wordOf w (c (e + i))
-unfolding inverseWords
-inverse-at w e zero c i l = absurd (omega arith)
-inverse-at w e (suc k) c zero l = let z : e ≡ e + 0 = omega arith in ap (λ (d : ℕ). wordOf w (c d)) z
-inverse-at w e (suc k) c (suc i) l =
-    let z : suc e + i ≡ e + suc i = omega arith in
-    inverse-at w (suc e) k c i (omega arith) ∙ ap (λ (d : ℕ). wordOf w (c d)) z
-
 half-width : (log : ℕ) → 0 < log → 2 ^ (log - 1) ≡ 2 ^ log / 2
 half-width zero l = absurd (omega arith)
 half-width (suc k) l = let z : k ≡ suc k - 1 = omega arith in omega (arith, ap (λ (n : ℕ). 2 ^ n) z)
 
+-- the words of all stages, in the direction of travel
 module _ (marks : List ℕ) (log : ℕ) (some : 0 < log) where
   abbrev both : Words
   both = wordsOf log (controlsIn 0 marks)
 
   -- the word of a row
-  row-word : (c : Stage) {r : ℕ} → row c ≡ r → wordOf (2 ^ (log - 1)) (swapsFrom marks r) ≡ wordOf (2 ^ log / 2) (controlsIn 0 marks c)
-  row-word c {r} q =
-      ap₂ wordOf (half-width log some)
+  row-word :
+      (c : Stage) {count v : ℕ}
+      → count ≡ 2 ^ (log - 1)
+      → v ≡ wordOf count (swapsFrom marks (row c))
+      → v ≡ wordOf (2 ^ log / 2) (controlsIn 0 marks c)
+  row-word c cq q =
+      q
+      ∙ ap₂ wordOf (cq ∙ half-width log some)
       (fun-ext
       (λ s.
-      let i : r + s ≡ row c + 0 + s = omega arith in
+      let i : row c + s ≡ row c + 0 + s = omega arith in
       ap (λ (i : ℕ). markSwaps (getD marks i 0)) i))
 
   pub butterfly-count : length (both .butterfly) ≡ log
   unfolding wordsOf
-  butterfly-count = butterfly-long (2 ^ log / 2) log (λ e. controlsIn 0 marks (Butterfly e))
+  butterfly-count = length-butterfly (2 ^ log / 2) log (λ e. controlsIn 0 marks (Butterfly e))
 
   pub inverse-count : length (both .inverse) ≡ log
   unfolding wordsOf
-  inverse-count = inverse-long (2 ^ log / 2) 0 log (λ e. controlsIn 0 marks (Inverse e))
+  inverse-count = length-inverse (2 ^ log / 2) 0 log (λ e. controlsIn 0 marks (Inverse e))
 
   module _ (i : ℕ) (l : i < log) {count v : ℕ} (cq : count ≡ 2 ^ (log - 1)) where
     pub butterfly-word : v ≡ wordOf count (swapsFrom marks (32 * (log - 1 - i))) → v ≡ getD (both .butterfly) i 0
     unfolding wordsOf
     butterfly-word q =
-        q
-        ∙ ap (λ (k : ℕ). wordOf k (swapsFrom marks (32 * (log - 1 - i)))) cq
-        ∙ row-word (Butterfly (log - 1 - i)) refl
-        ∙ sym (butterfly-at (2 ^ log / 2) log (λ e. controlsIn 0 marks (Butterfly e)) i l)
+        row-word (Butterfly (log - 1 - i)) cq q
+        ∙ sym (stage.butterfly-word (2 ^ log / 2) log (λ e. controlsIn 0 marks (Butterfly e)) i (log - 1 - i) (omega arith))
 
     pub inverse-word : v ≡ wordOf count (swapsFrom marks (192 + 32 * i)) → v ≡ getD (both .inverse) i 0
     unfolding wordsOf
     inverse-word q =
-        let z : 192 + 32 * (0 + i) ≡ 192 + 32 * i = omega arith in
-        q
-        ∙ ap (λ (k : ℕ). wordOf k (swapsFrom marks (192 + 32 * i))) cq
-        ∙ row-word (Inverse (0 + i)) z
-        ∙ sym (inverse-at (2 ^ log / 2) 0 log (λ e. controlsIn 0 marks (Inverse e)) i l)
+        row-word (Inverse i) cq q
+        ∙ sym (stage.inverse-word (2 ^ log / 2) 0 log (λ e. controlsIn 0 marks (Inverse e)) i i (omega arith) l)

@@ -55,7 +55,7 @@ slot-one (Butterfly e) (Inverse f) i j he hf hi hj q = absurd (omega arith)
 slot-one (Inverse e) (Butterfly f) i j he hf hi hj q = absurd (omega arith)
 slot-one (Inverse e) (Inverse f) i j he hf hi hj q = let z : e ≡ f = omega arith in (ap Inverse z, omega arith)
 
-pub mark-stored :
+mark-stored :
     (e b : ℕ) (c : Stage) (s : ℕ) (v : Bool) (x : ℕ) (marks : List ℕ)
     → exponent c < 6
     → b + s < 32

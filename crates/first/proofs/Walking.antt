@@ -1,10 +1,10 @@
 -- One step of the walk on the marks: what the first and the last step leave.
 -- Assumes nothing.
-use mathlib.Core.Path.{_≡_, refl, sym, ap, ap₂, _∙_, subst, fun-ext}
+use mathlib.Core.Path.{_≡_, refl, sym, ap, _∙_, subst, fun-ext}
 use mathlib.Core.Logic.{_≢_}
-use mathlib.Core.Bool.{Bool, not}
+use mathlib.Core.Bool.{Bool, true, false, not}
 use mathlib.Core.List.{List}
-use Prim.Native.Nat.{ℕ, zero, suc, _+_, _*_, _%_, _^_, _<_}
+use Prim.Native.Nat.{ℕ, suc, _+_, _*_, _%_, _^_, _<_}
 use native.Mathlib.Nat.{mod-lt, mod-eq-of-lt}
 use native.Mathlib.Omega.{arith}
 use lib.Dec.{leb}
@@ -12,14 +12,14 @@ use lib.Pow.{pow-pos}
 use lib.ListN.{getD}
 use borrow.Author.Tests.{lt-leb}
 use Rattle.routing.specs.Place.{Place, num}
-use Rattle.routing.specs.Marks.{Mark, unset, Marks, isUnset, countUnset}
+use Rattle.routing.specs.Marks.{Mark, unset, Marks, countUnset}
 use Rattle.routing.specs.Stages.{Stage, Butterfly, Inverse, exponent}
 use Rattle.routing.specs.Level.{other, Sets}
-use Rattle.routing.specs.FirstControls.{Permutes}
+use Rattle.routing.specs.Walk.{OnWalk}
 use Rattle.routing.proofs.PlaceNumbers.{num-lt}
 use Rattle.routing.proofs.Level.{other-small}
 use Rattle.routing.proofs.Arrays.{count-same, count-falls}
-use Rattle.routing.proofs.WalkSteps.{At, After, done-start, done-skip, at-start, at-small, at-last, after-end, after-unset, after-next}
+use Rattle.routing.proofs.WalkSteps.{done-start, done-skip, at-start, at-small, at-last, after-end, after-unset, after-next}
 use Rattle.first.specs.Marks.{markSwaps, markOf, row, marksAt, BlockFits, InOuter, Kept, MarksSet}
 use Rattle.first.specs.Blocks.{placeIn, Settled, AtLast, AtFirst, Stepped, Routable}
 use Rattle.first.proofs.Storing.{mark-unset, mark-set}
@@ -28,33 +28,19 @@ use Rattle.first.proofs.Storing.{mark-unset, mark-set}
 on-places : (n : ℕ) (M M′ : ℕ → Mark) → ((s : ℕ) → s < 2 ^ n → M′ s ≡ M s) → _≡_ {A = Marks (Place n)} (λ q. M (num n q)) (λ q. M′ (num n q))
 on-places n M M′ same = fun-ext (λ q. sym (same (num n q) (num-lt n q)))
 
-at-cong :
-    (n : ℕ) (π ρ : ℕ → ℕ) (perm : Permutes (2 ^ suc n) π ρ) (s y : ℕ) (M G G′ : ℕ → Mark)
-    → ((s : ℕ) → s < 2 ^ n → G′ s ≡ G s)
-    → At n π ρ perm s y M G
-    → At n π ρ perm s y M G′
-at-cong n π ρ perm s y M G G′ same a =
-    record {
-      start = a .start;
-      old = a .old;
-      done = a .done;
-      walk = a .walk;
-      feed = rw (on-places n G G′ same) at (a .feed);
-      stands = a .stands;
-    }
-
-after-cong :
-    (n : ℕ) (π ρ : ℕ → ℕ) (perm : Permutes (2 ^ suc n) π ρ) (s y : ℕ) (M M′ G : ℕ → Mark)
+on-walk-cong :
+    (n : ℕ) (π ρ : ℕ → ℕ) (fed : Bool) (s y : ℕ) (M M′ G G′ : ℕ → Mark)
     → ((s : ℕ) → s < 2 ^ n → M′ s ≡ M s)
-    → After n π ρ perm s y M G
-    → After n π ρ perm s y M′ G
-after-cong n π ρ perm s y M M′ G same a =
+    → ((s : ℕ) → s < 2 ^ n → G′ s ≡ G s)
+    → OnWalk n π ρ fed s y M G
+    → OnWalk n π ρ fed s y M′ G′
+on-walk-cong n π ρ fed s y M M′ G G′ first last a =
     record {
       start = a .start;
       old = a .old;
       done = a .done;
-      walk = rw (on-places n M M′ same) at (a .walk);
-      feed = a .feed;
+      walk = rw (on-places n M M′ first) at (a .walk);
+      feed = rw (on-places n G G′ last) at (a .feed);
       stands = a .stands;
     }
 
@@ -76,7 +62,7 @@ pub kept-at :
 kept-at In c b s marks marks′ kept he hs out =
     at-row c b s marks′ ∙ kept c (b + s) he hs out ∙ sym (at-row c b s marks)
 
-pub kept-trans :
+kept-trans :
     (In : Stage → ℕ → Type 0) (marks marks′ marks″ : List ℕ)
     → Kept In marks marks′
     → Kept In marks′ marks″
@@ -147,10 +133,10 @@ module _ (e b : ℕ) (to from : List ℕ) where
             marked-beside e b (at .fits) (Inverse e) (Butterfly e) (ρ y % 2 ^ e) (not (leb (2 ^ e) (ρ y))) marks marks′
             refl apart m
 
-        after : After e π ρ (at .perm) s y (marksAt (Butterfly e) b marks′) (marksAt (Inverse e) b marks′)
+        after : OnWalk e π ρ true s y (marksAt (Butterfly e) b marks′) (marksAt (Inverse e) b marks′)
         after =
-            after-cong e π ρ (at .perm) s y (marksAt (Butterfly e) b marks) (marksAt (Butterfly e) b marks′)
-            (marksAt (Inverse e) b marks′) beside
+            on-walk-cong e π ρ true s y (marksAt (Butterfly e) b marks) (marksAt (Butterfly e) b marks′)
+            (marksAt (Inverse e) b marks′) (marksAt (Inverse e) b marks′) beside (λ t l. refl)
             (at-last e π ρ (at .perm) s y (marksAt (Butterfly e) b marks) (marksAt (Inverse e) b marks)
             (marksAt (Inverse e) b marks′) (at .walk) (m .sets))
 
@@ -220,10 +206,10 @@ module _ (e b : ℕ) (to from : List ℕ) where
             perm = at .perm;
             walk =
                 subst
-                (λ (o : ℕ). At e π ρ (at .perm) s o (marksAt (Butterfly e) b marks′) (marksAt (Inverse e) b marks′))
+                (λ (o : ℕ). OnWalk e π ρ false s o (marksAt (Butterfly e) b marks′) (marksAt (Inverse e) b marks′))
                 (sym (oq ∙ ap (other e) (at .next)))
-                (at-cong e π ρ (at .perm) s (other e (π (other e (ρ (at .last))))) (marksAt (Butterfly e) b marks′)
-                (marksAt (Inverse e) b marks) (marksAt (Inverse e) b marks′)
+                (on-walk-cong e π ρ false s (other e (π (other e (ρ (at .last))))) (marksAt (Butterfly e) b marks′)
+                (marksAt (Butterfly e) b marks′) (marksAt (Inverse e) b marks) (marksAt (Inverse e) b marks′) (λ t l. refl)
                 (marked-beside e b (at .fits) (Butterfly e) (Inverse e) (x % 2 ^ e) (leb (2 ^ e) x) marks marks′ refl
                 (λ q. apart (sym q)) m)
                 (after-next e π ρ (at .perm) s (at .last) (marksAt (Butterfly e) b marks) (marksAt (Inverse e) b marks)
@@ -271,10 +257,10 @@ module _ (e b : ℕ) (to from : List ℕ) where
             walk =
                 subst
                 (λ (h : ℕ).
-                At e π ρ (settled .perm) s (h + s) (marksAt (Butterfly e) b marks′) (marksAt (Inverse e) b marks′))
+                OnWalk e π ρ false s (h + s) (marksAt (Butterfly e) b marks′) (marksAt (Inverse e) b marks′))
                 (sym hq)
-                (at-cong e π ρ (settled .perm) s (2 ^ e + s) (marksAt (Butterfly e) b marks′)
-                (marksAt (Inverse e) b marks) (marksAt (Inverse e) b marks′)
+                (on-walk-cong e π ρ false s (2 ^ e + s) (marksAt (Butterfly e) b marks′)
+                (marksAt (Butterfly e) b marks′) (marksAt (Inverse e) b marks) (marksAt (Inverse e) b marks′) (λ t l. refl)
                 (marked-beside e b f (Butterfly e) (Inverse e) (s % 2 ^ e) (leb (2 ^ e) s) marks marks′ refl
                 (λ q. apart (sym q)) m)
                 (at-start e π ρ (settled .perm) s (marksAt (Butterfly e) b marks) (marksAt (Inverse e) b marks)

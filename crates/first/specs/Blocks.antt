@@ -2,17 +2,16 @@
 -- Assumes nothing.
 use mathlib.Core.Path.{_≡_}
 use mathlib.Core.Logic.{_≢_}
-use mathlib.Core.Bool.{Bool}
+use mathlib.Core.Bool.{Bool, true, false}
 use mathlib.Core.List.{List}
 use Prim.Native.Nat.{ℕ, suc, _+_, _*_, _%_, _^_, _≤_, _<_}
 use lib.ListN.{length, getD}
 use Rattle.routing.specs.Place.{weight}
-use Rattle.routing.specs.Stages.{Butterfly, Inverse}
-use Rattle.routing.specs.FirstControls.{Permutes}
+use Rattle.routing.specs.Stages.{Butterfly, Inverse, Agree}
+use Rattle.routing.specs.FirstControls.{Permutes, firstControls}
+use Rattle.routing.specs.Walk.{LoopsDone, OnWalk}
 use Rattle.routing.specs.Level.{other, halfTo}
 use Rattle.routing.specs.Lists.{entry}
-use Rattle.routing.proofs.WalkSteps.{Done, At, After}
-use Rattle.routing.proofs.Level.{ReadsFirst}
 use Rattle.first.specs.Marks.{marksAt, swapsFrom, controlsIn, BlockFits, InOuter, InBlock, Kept, Fresh}
 
 -- the block's entry p: its places are number 2b to 2b + 2^(e+1) - 1
@@ -26,14 +25,14 @@ BlockPermutes e b to from = Permutes (2 ^ suc e) (placeIn to b) (placeIn from b)
 pub record Settled (e b : ℕ) (to from : List ℕ) (k : ℕ) (marks : List ℕ) : Type 0 where
   pub long : length marks ≡ 384
   pub perm : BlockPermutes e b to from
-  pub done : Done e (placeIn to b) (placeIn from b) perm k (marksAt (Butterfly e) b marks) (marksAt (Inverse e) b marks)
+  pub done : LoopsDone e (placeIn to b) (placeIn from b) k (marksAt (Butterfly e) b marks) (marksAt (Inverse e) b marks)
 
 -- on the loop of switch s, before the last switch of bit y
 pub record AtLast (e b : ℕ) (to from : List ℕ) (s y : ℕ) (marks : List ℕ) : Type 0 where
   pub long : length marks ≡ 384
   pub fits : BlockFits e b
   pub perm : BlockPermutes e b to from
-  pub walk : At e (placeIn to b) (placeIn from b) perm s y (marksAt (Butterfly e) b marks) (marksAt (Inverse e) b marks)
+  pub walk : OnWalk e (placeIn to b) (placeIn from b) false s y (marksAt (Butterfly e) b marks) (marksAt (Inverse e) b marks)
 
 -- on the loop of switch s, before the first switch of bit x, which is not s
 pub record AtFirst (e b : ℕ) (to from : List ℕ) (s x : ℕ) (marks : List ℕ) : Type 0 where
@@ -41,7 +40,7 @@ pub record AtFirst (e b : ℕ) (to from : List ℕ) (s x : ℕ) (marks : List �
   pub fits : BlockFits e b
   pub perm : BlockPermutes e b to from
   pub last : ℕ
-  pub walk : After e (placeIn to b) (placeIn from b) perm s last (marksAt (Butterfly e) b marks) (marksAt (Inverse e) b marks)
+  pub walk : OnWalk e (placeIn to b) (placeIn from b) true s last (marksAt (Butterfly e) b marks) (marksAt (Inverse e) b marks)
   pub next : x ≡ placeIn to b (other e (placeIn from b last))
   pub away : x % 2 ^ e ≢ s
   pub small : x < 2 ^ suc e
@@ -82,7 +81,7 @@ pub record BlockRouted (e b : ℕ) (to from marks to′ from′ marks′ : List 
   pub long : length marks′ ≡ 384
   pub to-long : length to′ ≡ 64
   pub from-long : length from′ ≡ 64
-  pub reads : ReadsFirst (suc e) (controlsIn b marks′) (placeIn to b) (placeIn from b)
+  pub first : Agree (suc e) (controlsIn b marks′) (firstControls (suc e) (placeIn to b) (placeIn from b))
   pub kept : Kept (InBlock e b) marks marks′
   pub to-kept : PlacesKept e b to to′
   pub from-kept : PlacesKept e b from from′

@@ -1,4 +1,4 @@
--- One network alone: the forced controls are the only ones, so the test is sound and complete.
+-- One network alone: the forced controls are the only ones that bring a permutation; a test of every number, and its law.
 -- Assumes nothing.
 use mathlib.Core.Path.{_≡_, refl, sym, ap, ap₂, _∙_, subst, fun-ext}
 use mathlib.Core.Bool.{Bool, true, false, _&&_, false≢true}
@@ -10,14 +10,14 @@ use borrow.Author.Tests.{eqb-true, eq-eqb}
 use Rattle.routing.specs.Place.{Place, num, place, at, tab}
 use Rattle.routing.specs.Loop.{Maps, IsPermutation, pass, side, sent, between}
 use Rattle.routing.specs.Net.{ControlTree, half, butterflySource, inverseSource, Net, NetRealises, part}
-use Rattle.routing.specs.Stages.{Same, butterfly, inverse, flat}
+use Rattle.routing.specs.Stages.{Same, butterfly, flat}
 use Rattle.routing.specs.FirstControls.{Permutes, onPlaces}
-use Rattle.routing.specs.Alone.{ButterflyBrings, InverseBrings, forced, butterflyControls, inverseControls, everyBelow, butterflyTest, inverseTest}
+use Rattle.routing.specs.Alone.{ButterflyBrings, InverseBrings, forced, butterflyControls, inverseControls, everyBelow}
 use Rattle.routing.proofs.Stage.{pair, side-low}
 use Rattle.routing.proofs.PlaceNumbers.{num-lt, place-num, at-tab-all}
 use Rattle.routing.proofs.Halves.{Keeps, halfNet, between-permutation, sides-keep, part-permutation, realises-sides, realises-half}
-use Rattle.routing.proofs.Through.{within}
-use Rattle.routing.proofs.Flat.{Reads, butterfly-source, reads-flat, treeOf, reads-tree, reads-same, butterfly-inverse, butterfly-cong, inverse-cong}
+use Rattle.routing.proofs.Through.{within, butterfly-inverse}
+use Rattle.routing.proofs.Flat.{Reads, butterfly-source, reads-flat, treeOf, reads-tree, reads-same}
 use Rattle.routing.proofs.FirstControls.{on-places}
 
 -- an inverse that passes everywhere moves nothing
@@ -169,25 +169,13 @@ butterfly-forced n π ρ perm c brings =
         ∙ ap (place n) (sym (butterfly-source n c F (reads-tree n c) p) ∙ brings (num n p) (num-lt n p))
 
 -- what the inverse brings, the butterfly of the same controls brings back
-inverse-butterfly-brings :
-    (n : ℕ) (π ρ : ℕ → ℕ)
-    → Permutes (2 ^ n) π ρ
-    → (c : ℕ → ℕ → Bool)
-    → InverseBrings n c π
-    → ButterflyBrings n c ρ
-inverse-butterfly-brings n π ρ perm c brings x l =
-    let k = perm .from-small x l in
-    ap (butterfly n c) (sym (perm .to-from x l) ∙ sym (brings (ρ x) k)) ∙ butterfly-inverse n c (ρ x) k
-
 pub inverse-forced :
-    (n : ℕ) (π ρ : ℕ → ℕ)
-    → Permutes (2 ^ n) π ρ
-    → (c : ℕ → ℕ → Bool)
-    → InverseBrings n c π
-    → Same n c (inverseControls n π ρ)
+    (n : ℕ) (π ρ : ℕ → ℕ) → Permutes (2 ^ n) π ρ → (c : ℕ → ℕ → Bool) → InverseBrings n c π → Same n c (inverseControls n π ρ)
 unfolding inverseControls
 inverse-forced n π ρ perm c brings =
-    butterfly-forced n ρ π (permutes-back perm) c (inverse-butterfly-brings n π ρ perm c brings)
+    butterfly-forced n ρ π (permutes-back perm) c
+    (λ x l.
+    ap (butterfly n c) (sym (perm .to-from x l) ∙ sym (brings (ρ x) (perm .from-small x l))) ∙ butterfly-inverse n c (ρ x))
 
 -- a test of every number below k against its law
 pub tested-equal : (k : ℕ) (f g : ℕ → ℕ) → everyBelow k (λ p. eqb (f p) (g p)) ≡ true → (p : ℕ) → p < k → f p ≡ g p
@@ -211,34 +199,3 @@ equal-tested zero f g all = refl
 equal-tested (suc k) f g all =
     ap (λ (b : Bool). b && everyBelow k (λ p. eqb (f p) (g p))) (eq-eqb (f k) (g k) (all k (omega arith)))
     ∙ equal-tested k f g (λ p l. all p (omega arith))
-
--- the tests: passed, the forced controls bring the permutation; failed, none do
-pub butterfly-sound : (n : ℕ) (π ρ : ℕ → ℕ) → butterflyTest n π ρ ≡ true → ButterflyBrings n (butterflyControls n π ρ) π
-unfolding butterflyTest
-butterfly-sound n π ρ = tested-equal (2 ^ n) (butterfly n (butterflyControls n π ρ)) π
-
-pub butterfly-complete :
-    (n : ℕ) (π ρ : ℕ → ℕ)
-    → Permutes (2 ^ n) π ρ
-    → (c : ℕ → ℕ → Bool)
-    → ButterflyBrings n c π
-    → butterflyTest n π ρ ≡ true
-unfolding butterflyTest
-butterfly-complete n π ρ perm c brings =
-    equal-tested (2 ^ n) (butterfly n (butterflyControls n π ρ)) π
-    (λ p l. sym (butterfly-cong n c p l (butterflyControls n π ρ) (butterfly-forced n π ρ perm c brings)) ∙ brings p l)
-
-pub inverse-sound : (n : ℕ) (π ρ : ℕ → ℕ) → inverseTest n π ρ ≡ true → InverseBrings n (inverseControls n π ρ) π
-unfolding inverseTest
-inverse-sound n π ρ = tested-equal (2 ^ n) (inverse n (inverseControls n π ρ)) π
-
-pub inverse-complete :
-    (n : ℕ) (π ρ : ℕ → ℕ)
-    → Permutes (2 ^ n) π ρ
-    → (c : ℕ → ℕ → Bool)
-    → InverseBrings n c π
-    → inverseTest n π ρ ≡ true
-unfolding inverseTest
-inverse-complete n π ρ perm c brings =
-    equal-tested (2 ^ n) (inverse n (inverseControls n π ρ)) π
-    (λ p l. sym (inverse-cong n c p l (inverseControls n π ρ) (inverse-forced n π ρ perm c brings)) ∙ brings p l)

@@ -4,7 +4,7 @@ use mathlib.Core.Path.{_≡_, refl, sym, ap, ap₂, _∙_}
 use mathlib.Core.Logic.{_≢_}
 use mathlib.Core.Bool.{Bool}
 use mathlib.Core.List.{List}
-use Prim.Native.Nat.{ℕ, zero, suc, _+_, _^_, _≤_, _<_}
+use Prim.Native.Nat.{ℕ, zero, suc, _+_, _^_, _<_}
 use native.Mathlib.Decide.{ℕ-discrete}
 use native.Mathlib.Omega.{arith}
 use lib.ListN.{length, getD, set as store}
@@ -69,12 +69,3 @@ pub count-falls :
     → M s ≡ unset
     → suc (countUnset M′ (2 ^ n)) ≡ countUnset M (2 ^ n)
 count-falls n s v M M′ l d e = count-one (2 ^ n) s v M M′ l e (d .here) (d .elsewhere)
-
-pub count-le : (M : ℕ → Mark) (k : ℕ) → countUnset M k ≤ k
-unfolding countUnset
-count-le M zero = omega arith
-count-le M (suc k) = omega (arith, count-le M k, one (M k))
-  where
-    one : (v : Mark) → isUnset v ≤ 1
-    one unset = omega arith
-    one (set v) = omega arith

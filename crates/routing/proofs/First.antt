@@ -17,9 +17,8 @@ use Rattle.routing.proofs.Loop.{
   same-on-loop,
   IsLeast,
   least-unique,
-  least-on,
   period,
-  within,
+  within-period,
   reach-sym,
   reach-step,
   reach-flip,
@@ -52,17 +51,26 @@ module _ {S : Type 0} (K : Numbered S) (m : Maps (Bool × S)) (perm : IsPermutat
       omega
       (arith, pick-le x (least (K .index) m k (loopTurn m x)) .le-right, least-le k (loopTurn m x) i (omega arith))
 
+  least-on : (k : ℕ) (x : Bool × S) → Reach m x (least (K .index) m k x)
+  unfolding least loopTurns
+  least-on zero x = record { steps = 0; ends = refl }
+  least-on (suc k) x = go (leb (K .index (x .1)) (K .index (least (K .index) m k (loopTurn m x) .1))) (least-on k (loopTurn m x))
+    where
+      go : (b : Bool) → Reach m (loopTurn m x) (least (K .index) m k (loopTurn m x)) → Reach m x (cond b x (least (K .index) m k (loopTurn m x)))
+      go true r = record { steps = 0; ends = refl }
+      go false r = record { steps = suc (r .steps); ends = r .ends }
+
   pub leastOf : Bool × S → Bool × S
   leastOf x = least (K .index) m (K .count) x
 
   pub least-is : (x : Bool × S) → IsLeast K m perm x (leastOf x)
   unfolding leastOf
-  least-is x = record { on = least-on K m perm (K .count) x; least-of = λ z r. bound z r }
+  least-is x = record { on = least-on (K .count) x; least-of = λ z r. bound z r }
     where
       bound : (z : Bool × S) → Reach m x z → K .index (least (K .index) m (K .count) x .1) ≤ K .index (z .1)
       bound z r =
           let p = period K m perm x in
-          let w = within K m perm x p (r .steps) in
+          let w = within-period K m perm x p (r .steps) in
           let e : loopTurns m (w .0) x ≡ z = sym (w .2) ∙ r .ends in
           rw e at (least-le (K .count) x (w .0) (omega (arith, w .1, p .short)))
 
@@ -89,40 +97,40 @@ module _ {S : Type 0} (K : Numbered S) (m : Maps (Bool × S)) (perm : IsPermutat
             rw (flip-switch (leastOf x), ← (flip-switch z)) (a .least-of (flip z) (reach-flipped x z q));
       })
 
-  abbrev pub stageOne : S → Bool
-  stageOne s = firstStage (K .index) (K .count) m s
+  abbrev pub firstOf : S → Bool
+  firstOf s = firstStage (K .index) (K .count) m s
 
   side-cong : (f g : S → Bool) (x : Bool × S) → f (x .1) ≡ g (x .1) → side f x ≡ side g x
   unfolding side
   side-cong f g x e = ap (λ (b : Bool). xor b (x .0)) e
 
-  stage-low : (s : S) → stageOne s ≡ leastOf (false, s) .0
+  stage-low : (s : S) → firstOf s ≡ leastOf (false, s) .0
   unfolding leastOf firstStage
   stage-low s = refl
 
   -- a bit goes to the side on which its loop meets its least switch
-  side-first : (b : Bool) (s : S) → side stageOne (b, s) ≡ leastOf (b, s) .0
+  side-first : (b : Bool) (s : S) → side firstOf (b, s) ≡ leastOf (b, s) .0
   unfolding flip
-  side-first false s = side-low stageOne s ∙ stage-low s
+  side-first false s = side-low firstOf s ∙ stage-low s
   side-first true s =
-      side-flip stageOne (false, s)
-      ∙ ap not (side-low stageOne s ∙ stage-low s)
+      side-flip firstOf (false, s)
+      ∙ ap not (side-low firstOf s ∙ stage-low s)
       ∙ ap (λ (y : Bool × S). y .0) (sym (least-flip (false, s)))
 
-  side-first-turn : (x : Bool × S) → side stageOne (loopTurn m x) ≡ side stageOne x
+  side-first-turn : (x : Bool × S) → side firstOf (loopTurn m x) ≡ side firstOf x
   side-first-turn x =
       side-first (loopTurn m x .0) (loopTurn m x .1)
       ∙ ap (λ (y : Bool × S). y .0) (sym (least-same x (loopTurn m x) (reach-turn K m perm x)))
       ∙ sym (side-first (x .0) (x .1))
 
-  pub first-valid : Valid m stageOne
+  pub first-valid : Valid m firstOf
   unfolding loopTurn
   first-valid p =
       cc
-      (side-first-turn (m .to p), perm .from-to p, side-flip stageOne (m .to (flip p)), not-not (side stageOne (m .to (flip p))))
+      (side-first-turn (m .to p), perm .from-to p, side-flip firstOf (m .to (flip p)), not-not (side firstOf (m .to (flip p))))
 
   -- a switch that is the least of its loop passes
-  pub passes-if-least : (s : S) → ¬ (K .index (leastOf (false, s) .1) < K .index s) → stageOne s ≡ pass
+  pub passes-if-least : (s : S) → ¬ (K .index (leastOf (false, s) .1) < K .index s) → firstOf s ≡ pass
   passes-if-least s h =
       let a = least-is (false, s) in
       let q : K .index (leastOf (false, s) .1) ≡ K .index s =
@@ -137,14 +145,14 @@ module _ {S : Type 0} (K : Numbered S) (m : Maps (Bool × S)) (perm : IsPermutat
       (f : S → Bool)
       → Valid m f
       → (s : S)
-      → ((t : S) → K .index t < K .index s → stageOne t ≡ f t)
-      → (stageOne s ≡ pass) ⊎ (stageOne s ≡ f s)
+      → ((t : S) → K .index t < K .index s → firstOf t ≡ f t)
+      → (firstOf s ≡ pass) ⊎ (firstOf s ≡ f s)
   first-leads f valid s agree = go (decLt (K .index (leastOf (false, s) .1)) (K .index s))
     where
-      go : Dec (K .index (leastOf (false, s) .1) < K .index s) → (stageOne s ≡ pass) ⊎ (stageOne s ≡ f s)
+      go : Dec (K .index (leastOf (false, s) .1) < K .index s) → (firstOf s ≡ pass) ⊎ (firstOf s ≡ f s)
       go (yes l) =
           let r = least-is (false, s) .on in
           inr
           (cc
-          (side-low stageOne s, side-low f s, side-turns m perm stageOne first-valid (r .steps) (false, s), side-turns m perm f valid (r .steps) (false, s), r .ends, side-cong stageOne f (leastOf (false, s)) (agree (leastOf (false, s) .1) l)))
+          (side-low firstOf s, side-low f s, side-turns m perm firstOf first-valid (r .steps) (false, s), side-turns m perm f valid (r .steps) (false, s), r .ends, side-cong firstOf f (leastOf (false, s)) (agree (leastOf (false, s) .1) l)))
       go (no g) = inl (passes-if-least s g)

@@ -4,19 +4,19 @@ use mathlib.Core.Path.{_≡_, sym, ap, _∙_, fun-ext}
 use mathlib.Core.Logic.{_⊎_, inl, inr}
 use Prim.Native.Nat.{ℕ, _^_, _<_}
 use Rattle.routing.specs.Place.{Place, num, place}
-use Rattle.routing.specs.Loop.{IsPermutation}
+use Rattle.routing.specs.Loop.{Maps, IsPermutation}
 use Rattle.routing.specs.Net.{inverseSource, Net, netSource, NetRealises, firstNet}
-use Rattle.routing.specs.Stages.{Butterfly, Inverse, butterfly, inverse, StageControls, network, Agree, ComesLater, netControls}
+use Rattle.routing.specs.Stages.{Butterfly, Inverse, butterfly, inverse, StageControls, network, Agree, ComesLater, flat, netControls}
 use Rattle.routing.specs.FirstControls.{Permutes, Brings, IsFirst, onPlaces, firstControls}
 use Rattle.routing.proofs.Stage.{maps-path}
 use Rattle.routing.proofs.PlaceNumbers.{num-lt, place-num, num-place}
 use Rattle.routing.proofs.Halves.{first-realises}
-use Rattle.routing.proofs.Flat.{butterfly-source, inverse-source, reads-cong, reads-flat, treeOf, reads-tree}
+use Rattle.routing.proofs.Flat.{butterfly-source, inverse-source, reads-cong, reads-flat, treeOf, reads-tree, reads-same}
 use Rattle.routing.proofs.Leads.{ReadsNet, leads}
-use Rattle.routing.proofs.Later.{agree-or-later, later-asym}
+use Rattle.routing.proofs.Later.{agree-or-later}
 
 -- a net and its stages over the whole width move bits alike
-pub network-source :
+network-source :
     (n : ℕ) (C : StageControls) (N : Net n)
     → ReadsNet n C N
     → (p : Place n)
@@ -26,13 +26,13 @@ network-source n C N r p =
     ap (butterfly n (λ e. C (Butterfly e))) (inverse-source n (λ e. C (Inverse e)) (N .inverse) (r .inverse) p)
     ∙ butterfly-source n (λ e. C (Butterfly e)) (N .butterfly) (r .butterfly) (inverseSource n (N .inverse) p)
 
-pub reads-controls : (n : ℕ) (N : Net n) → ReadsNet n (netControls n N) N
+reads-controls : (n : ℕ) (N : Net n) → ReadsNet n (netControls n N) N
 reads-controls n N = record { butterfly = reads-flat n (N .butterfly); inverse = reads-flat n (N .inverse) }
 
-pub netOf : (n : ℕ) → StageControls → Net n
+netOf : (n : ℕ) → StageControls → Net n
 netOf n C = record { butterfly = treeOf n (λ e. C (Butterfly e)); inverse = treeOf n (λ e. C (Inverse e)) }
 
-pub reads-net : (n : ℕ) (C : StageControls) → ReadsNet n C (netOf n C)
+reads-net : (n : ℕ) (C : StageControls) → ReadsNet n C (netOf n C)
 unfolding netOf
 reads-net n C =
     record {
@@ -41,22 +41,30 @@ reads-net n C =
     }
 
 -- only the values below 2^n count
-pub on-places-cong :
+pub first-controls-cong :
     (n : ℕ) (π ρ π′ ρ′ : ℕ → ℕ)
     → ((p : ℕ) → p < 2 ^ n → π p ≡ π′ p)
     → ((x : ℕ) → x < 2 ^ n → ρ x ≡ ρ′ x)
-    → onPlaces n π ρ ≡ onPlaces n π′ ρ′
-unfolding onPlaces
-on-places-cong n π ρ π′ ρ′ to from =
-    maps-path
+    → firstControls n π ρ ≡ firstControls n π′ ρ′
+unfolding firstControls onPlaces
+first-controls-cong n π ρ π′ ρ′ to from =
+    ap (λ (m : Maps (Place n)). netControls n (firstNet n m))
+    (maps-path
     (fun-ext (λ p. ap (place n) (to (num n p) (num-lt n p))))
-    (fun-ext (λ x. ap (place n) (from (num n x) (num-lt n x))))
+    (fun-ext (λ x. ap (place n) (from (num n x) (num-lt n x)))))
 
 -- a permutation has one inverse
 pub inverse-unique :
-    (w : ℕ) (π ρ ρ′ : ℕ → ℕ) → Permutes w π ρ → Permutes w π ρ′ → (x : ℕ) → x < w → ρ x ≡ ρ′ x
-inverse-unique w π ρ ρ′ a b x l =
-    ap ρ (sym (b .to-from x l)) ∙ a .from-to (ρ′ x) (b .from-small x l)
+    (w : ℕ) (π ρ π′ ρ′ : ℕ → ℕ)
+    → Permutes w π ρ
+    → Permutes w π′ ρ′
+    → ((p : ℕ) → p < w → π p ≡ π′ p)
+    → (x : ℕ)
+    → x < w
+    → ρ x ≡ ρ′ x
+inverse-unique w π ρ π′ ρ′ a b same x l =
+    let k = b .from-small x l in
+    ap ρ (sym (b .to-from x l) ∙ sym (same (ρ′ x) k)) ∙ a .from-to (ρ′ x) k
 
 -- a permutation of places is one of their numbers
 pub permutes-places :
@@ -126,36 +134,22 @@ module _ (n : ℕ) (π ρ : ℕ → ℕ) (perm : Permutes (2 ^ n) π ρ) where
       sym (place-num n (netSource n N p))
       ∙ ap (place n) (sym (network-source n C N r p) ∙ brings (num n p) (num-lt n p))
 
-  -- stages that have the controls of the first net are the first
-  pub reads-first : (C : StageControls) → ReadsNet n C (firstNet n (onPlaces n π ρ)) → IsFirst n C π
-  reads-first C r =
-      record {
-        brings =
-            realises-brings C (firstNet n (onPlaces n π ρ)) r
-            (first-realises n (onPlaces n π ρ) on-places);
-        others = λ D brings.
-            agree-or-later n C D
-            (leads n (onPlaces n π ρ) on-places C D (netOf n D) r (reads-net n D)
-            (brings-realises D (netOf n D) (reads-net n D) brings));
-      }
-
   pub first-controls : IsFirst n (firstControls n π ρ) π
   unfolding firstControls
   first-controls =
-      reads-first (netControls n (firstNet n (onPlaces n π ρ)))
-      (reads-controls n (firstNet n (onPlaces n π ρ)))
+      let m = onPlaces n π ρ in
+      let C = netControls n (firstNet n m) in
+      let r = reads-controls n (firstNet n m) in
+      record {
+        brings = realises-brings C (firstNet n m) r (first-realises n m on-places);
+        others = λ D brings.
+            agree-or-later n C D
+            (leads n m on-places C D (netOf n D) r (reads-net n D)
+            (brings-realises D (netOf n D) (reads-net n D) brings));
+      }
 
--- there is one first set
-pub first-unique : (n : ℕ) (π : ℕ → ℕ) (C D : StageControls) → IsFirst n C π → IsFirst n D π → Agree n C D
-first-unique n π C D c d = go (c .others D (d .brings)) (d .others C (c .brings))
-  where
-    go : Agree n C D ⊎ ComesLater n C D → Agree n D C ⊎ ComesLater n D C → Agree n C D
-    go (inl a) e = a
-    go (inr l) (inl a) = λ c s i. sym (a c s i)
-    go (inr l) (inr k) = absurd (later-asym n C D l k)
-
--- sets that agree have the same net
-pub reads-net-cong :
+-- controls that agree have the same net
+reads-net-cong :
     (n : ℕ) (C D : StageControls) (N : Net n) → Agree n C D → ReadsNet n D N → ReadsNet n C N
 reads-net-cong n C D N agree r =
     record {
@@ -167,8 +161,18 @@ reads-net-cong n C D N agree r =
           (r .inverse);
     }
 
--- and bring the same bits
-pub network-cong :
+-- so stages have the controls of a net exactly if they agree with its own
+pub agree-reads : (n : ℕ) (C : StageControls) (N : Net n) → Agree n C (netControls n N) → ReadsNet n C N
+agree-reads n C N agree = reads-net-cong n C (netControls n N) N agree (reads-controls n N)
+
+pub reads-agree : (n : ℕ) (C : StageControls) (N : Net n) → ReadsNet n C N → Agree n C (netControls n N)
+reads-agree n C N r (Butterfly e) =
+    reads-same n (λ e. C (Butterfly e)) (flat n (N .butterfly)) (N .butterfly) (r .butterfly) (reads-flat n (N .butterfly)) e
+reads-agree n C N r (Inverse e) =
+    reads-same n (λ e. C (Inverse e)) (flat n (N .inverse)) (N .inverse) (r .inverse) (reads-flat n (N .inverse)) e
+
+-- controls that agree bring the same bits
+network-cong :
     (n : ℕ) (C D : StageControls) → Agree n C D → (p : ℕ) → p < 2 ^ n → network n C p ≡ network n D p
 network-cong n C D agree p l =
     let e = num-place n p l in
@@ -179,7 +183,7 @@ network-cong n C D agree p l =
     ∙ sym (network-source n D (netOf n D) r (place n p))
     ∙ ap (network n D) e
 
--- so a set that agrees with the first is the first
+-- so controls that agree with the first are the first
 pub first-cong : (n : ℕ) (π : ℕ → ℕ) (C D : StageControls) → Agree n C D → IsFirst n C π → IsFirst n D π
 first-cong n π C D agree c =
     record {

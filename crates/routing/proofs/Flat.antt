@@ -1,4 +1,4 @@
--- Stages over the whole width and stages by halves are the same controls.
+-- Controls over the whole width and controls by halves: they say the same, and move bits alike.
 -- Assumes nothing.
 use mathlib.Core.Path.{_≡_, refl, sym, ap, _∙_, subst}
 use mathlib.Core.Bool.{Bool, true, false, cond}
@@ -10,9 +10,9 @@ use Rattle.routing.specs.Place.{Place, weight, num, place, at, tab}
 use Rattle.routing.specs.Loop.{sent}
 use Rattle.routing.specs.Net.{ControlTree, half, butterflySource, inverseSource}
 use Rattle.routing.specs.Stages.{through, butterfly, inverse, InRange, Same, treeControl, flat}
-use Rattle.routing.proofs.Stage.{pair, stage-stage}
+use Rattle.routing.proofs.Stage.{stage-stage}
 use Rattle.routing.proofs.PlaceNumbers.{num-lt, num-place, weight-le, place-weight, place-num, at-tab}
-use Rattle.routing.proofs.Through.{within, butterfly-within, inverse-within, through-top}
+use Rattle.routing.proofs.Through.{within, butterfly-within, through-top, inverse-butterfly}
 
 -- c, by exponents and switch numbers, has the controls of F
 abbrev pub Reads : (n : ℕ) → (ℕ → ℕ → Bool) → ControlTree n → Type 0
@@ -39,25 +39,25 @@ butterfly-source (suc n) c F r p =
     (butterfly-source n (within n h c) (half n F h) (r .halves h) (p .1)))
     ∙ through-top n (c n) (at n (F .outer)) (r .outer) (h, butterflySource n (half n F h) (p .1))
 
-pub inverse-source :
-    (n : ℕ) (c : ℕ → ℕ → Bool) (F : ControlTree n)
-    → Reads n c F
-    → (p : Place n)
-    → inverse n c (num n p) ≡ num n (inverseSource n F p)
-unfolding num inverse inverseSource
-inverse-source zero c F r p = refl
-inverse-source (suc n) c F r p =
+butterfly-inverse-place : (n : ℕ) (F : ControlTree n) (p : Place n) → butterflySource n F (inverseSource n F p) ≡ p
+unfolding butterflySource inverseSource
+butterfly-inverse-place zero F p = refl
+butterfly-inverse-place (suc n) F p =
     let q = sent (at n (F .outer)) p in
-    let h = q .0 in
-    ap (inverse n c) (through-top n (c n) (at n (F .outer)) (r .outer) p)
-    ∙ inverse-within n h c (num n (q .1))
-    ∙ ap (λ (y : ℕ). weight h n + y)
-    (inverse-source n (within n h c) (half n F h) (r .halves h) (q .1))
+    ap (λ (y : Place n). sent (at n (F .outer)) (q .0, y)) (butterfly-inverse-place n (half n F (q .0)) (q .1))
+    ∙ stage-stage (at n (F .outer)) p
+
+pub inverse-source :
+    (n : ℕ) (c : ℕ → ℕ → Bool) (F : ControlTree n) → Reads n c F → (p : Place n) → inverse n c (num n p) ≡ num n (inverseSource n F p)
+inverse-source n c F r p =
+    let q = inverseSource n F p in
+    ap (inverse n c) (ap (num n) (sym (butterfly-inverse-place n F p)) ∙ sym (butterfly-source n c F r q))
+    ∙ inverse-butterfly n c (num n q)
 
 pub within-range : (k : ℕ) (h : Bool) (e s : ℕ) → InRange (suc k) e s → InRange (suc (suc k)) e (weight h k + s)
 within-range k h e s i = record { at-stage = omega (arith, i .at-stage); switch = omega (arith, i .switch, weight-le h k) }
 
-pub agree-within :
+agree-within :
     (n : ℕ) (h : Bool) (c d : ℕ → ℕ → Bool)
     → Same (suc n) c d
     → Same n (within n h c) (within n h d)
@@ -138,7 +138,7 @@ reads-tree (suc n) c =
     go false l u = l
     go true l u = u
 
--- controls that the same stages have are the same
+-- stages that have the controls of one tree are the same
 reads-inner :
     (n : ℕ) (c d : ℕ → ℕ → Bool)
     → ((h : Bool) → Same n (within n h c) (within n h d))
@@ -169,63 +169,25 @@ reads-same (suc n) c d F rc rd e s i =
         let x : n ≡ e = omega (arith, i .at-stage) in
         subst (λ (k : ℕ). c k (num n q) ≡ d k (num n q)) x (rc .outer q ∙ sym (rd .outer q))
 
--- the inverse undoes the butterfly of the same controls, and the other way
-pub butterfly-inverse-place : (n : ℕ) (F : ControlTree n) (p : Place n) → butterflySource n F (inverseSource n F p) ≡ p
-unfolding butterflySource inverseSource
-butterfly-inverse-place zero F p = refl
-butterfly-inverse-place (suc n) F p =
-    let q = sent (at n (F .outer)) p in
-    ap (λ (y : Place n). sent (at n (F .outer)) (q .0, y)) (butterfly-inverse-place n (half n F (q .0)) (q .1))
-    ∙ stage-stage (at n (F .outer)) p
+-- controls that are the same move bits alike, through any network that moves them by what it reads
+module _
+    (n : ℕ)
+    (move : (ℕ → ℕ → Bool) → ℕ → ℕ)
+    (source : ControlTree n → Place n → Place n)
+    (is : (c : ℕ → ℕ → Bool) (F : ControlTree n) → Reads n c F → (p : Place n) → move c (num n p) ≡ num n (source F p))
+  where
+    move-cong : (c d : ℕ → ℕ → Bool) → Same n c d → (p : ℕ) → p < 2 ^ n → move c p ≡ move d p
+    move-cong c d same p l =
+        let F = treeOf n d in
+        let r = reads-tree n d in
+        let e = num-place n p l in
+        ap (move c) (sym e)
+        ∙ is c F (reads-cong n c d F same r) (place n p)
+        ∙ sym (is d F r (place n p))
+        ∙ ap (move d) e
 
-pub inverse-butterfly-place : (n : ℕ) (F : ControlTree n) (p : Place n) → inverseSource n F (butterflySource n F p) ≡ p
-unfolding butterflySource inverseSource
-inverse-butterfly-place zero F p = refl
-inverse-butterfly-place (suc n) F p =
-    ap (λ (z : Place (suc n)). (z .0, inverseSource n (half n F (z .0)) (z .1)))
-    (stage-stage (at n (F .outer)) (p .0, butterflySource n (half n F (p .0)) (p .1)))
-    ∙ pair refl (inverse-butterfly-place n (half n F (p .0)) (p .1))
+pub butterfly-cong : (n : ℕ) (c d : ℕ → ℕ → Bool) → Same n c d → (p : ℕ) → p < 2 ^ n → butterfly n c p ≡ butterfly n d p
+butterfly-cong n = move-cong n (butterfly n) (butterflySource n) (butterfly-source n)
 
-module _ (n : ℕ) (c : ℕ → ℕ → Bool) (p : ℕ) (l : p < 2 ^ n) where
-  pub butterfly-inverse : butterfly n c (inverse n c p) ≡ p
-  butterfly-inverse =
-      let F = treeOf n c in
-      let r = reads-tree n c in
-      let e = num-place n p l in
-      ap (λ (y : ℕ). butterfly n c (inverse n c y)) (sym e)
-      ∙ ap (butterfly n c) (inverse-source n c F r (place n p))
-      ∙ butterfly-source n c F r (inverseSource n F (place n p))
-      ∙ ap (num n) (butterfly-inverse-place n F (place n p))
-      ∙ e
-
-  pub inverse-butterfly : inverse n c (butterfly n c p) ≡ p
-  inverse-butterfly =
-      let F = treeOf n c in
-      let r = reads-tree n c in
-      let e = num-place n p l in
-      ap (λ (y : ℕ). inverse n c (butterfly n c y)) (sym e)
-      ∙ ap (inverse n c) (butterfly-source n c F r (place n p))
-      ∙ inverse-source n c F r (butterflySource n F (place n p))
-      ∙ ap (num n) (inverse-butterfly-place n F (place n p))
-      ∙ e
-
-  -- controls that are the same move bits alike
-  pub butterfly-cong : (d : ℕ → ℕ → Bool) → Same n c d → butterfly n c p ≡ butterfly n d p
-  butterfly-cong d same =
-      let F = treeOf n d in
-      let r = reads-tree n d in
-      let e = num-place n p l in
-      ap (butterfly n c) (sym e)
-      ∙ butterfly-source n c F (reads-cong n c d F same r) (place n p)
-      ∙ sym (butterfly-source n d F r (place n p))
-      ∙ ap (butterfly n d) e
-
-  pub inverse-cong : (d : ℕ → ℕ → Bool) → Same n c d → inverse n c p ≡ inverse n d p
-  inverse-cong d same =
-      let F = treeOf n d in
-      let r = reads-tree n d in
-      let e = num-place n p l in
-      ap (inverse n c) (sym e)
-      ∙ inverse-source n c F (reads-cong n c d F same r) (place n p)
-      ∙ sym (inverse-source n d F r (place n p))
-      ∙ ap (inverse n d) e
+pub inverse-cong : (n : ℕ) (c d : ℕ → ℕ → Bool) → Same n c d → (p : ℕ) → p < 2 ^ n → inverse n c p ≡ inverse n d p
+inverse-cong n = move-cong n (inverse n) (inverseSource n) (inverse-source n)

@@ -29,7 +29,7 @@ module _ {S : Type 0} (m : Maps (Bool × S)) (perm : IsPermutation m) where
   keeps-from keeps x = sym (keeps (m .from x)) ∙ ap (λ (y : Bool × S). y .0) (perm .to-from x)
 
   -- in a valid stage and its last stage, the two places of a last switch take both sides
-  pub valid-sides :
+  valid-sides :
       (f : S → Bool) → Valid m f → (p : Bool × S) → side f (m .to p) ≡ side (lastStage m f) p
   unfolding side lastStage flip
   valid-sides f valid p = go (p .0) (p .1)
@@ -106,7 +106,7 @@ module _ (n : ℕ) (N : Net (suc n)) (m : Maps (Place (suc n))) where
   realises-half r h q =
       sym (part-to n (between m f g) h q ∙ ap (λ (y : Place (suc n)). y .1) (between-inner r (h, q)))
 
-  pub realises-whole :
+  realises-whole :
       Keeps (between m f g)
       → ((h : Bool) → NetRealises n (halfNet n N h) (part n (between m f g) h))
       → NetRealises (suc n) N m
@@ -145,7 +145,7 @@ module _ (n : ℕ) (m : Maps (Place (suc n))) (perm : IsPermutation m) where
   first-half true = ap (λ (k : Maps (Place (suc n))). firstNet n (part n k true)) first-between
   first-half false = ap (λ (k : Maps (Place (suc n))). firstNet n (part n k false)) first-between
 
-  pub left-keeps : Keeps left
+  left-keeps : Keeps left
   left-keeps = sides-keep m perm outerFirst (lastStage m outerFirst) (valid-sides m perm outerFirst (first-valid (numbered n) m perm))
 
   pub left-part : (h : Bool) → IsPermutation (part n left h)

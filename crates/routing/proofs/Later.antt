@@ -2,59 +2,59 @@
 -- Assumes nothing.
 use mathlib.Core.Path.{_≡_, refl, sym, ap, _∙_, subst}
 use mathlib.Core.Logic.{_⊎_, inl, inr, _≢_}
-use mathlib.Core.Bool.{Bool, true, false, cond, Bool-discrete, true≢false}
+use mathlib.Core.Bool.{Bool, true, false, cond, Bool-discrete}
 use Prim.Native.Nat.{ℕ, suc, _+_, _-_, _^_, _<_}
 use native.Mathlib.Decide.{decLt}
 use native.Mathlib.Omega.{arith}
 use lib.Dec.{ltb}
 use borrow.Author.Tests.{lt-ltb, le-ltb, ltb-true, ltb-false}
 use Rattle.routing.specs.Loop.{pass, swap}
-use Rattle.routing.specs.Stages.{Stage, Butterfly, Inverse, exponent, StageControls, Earlier, SwitchBefore, AgreeBefore, Agree, ComesLater, Leads}
+use Rattle.routing.specs.Stages.{Stage, Butterfly, Inverse, exponent, StageControls, Earlier, AgreeBefore, Agree, ComesLater, Leads}
 use Rattle.routing.proofs.Finite.{Least, least-or-none}
 
--- the place of a stage in the direction of travel, and the stage at a place
-rank : ℕ → Stage → ℕ
-rank n (Butterfly e) = n - suc e
-rank n (Inverse e) = n + e
+-- the position of a stage in the direction of travel, and the stage at a position
+position : ℕ → Stage → ℕ
+position n (Butterfly e) = n - suc e
+position n (Inverse e) = n + e
 
 stage-at : ℕ → ℕ → Stage
 stage-at n r = cond (ltb r n) (Butterfly (n - suc r)) (Inverse (r - n))
 
-rank-small : (n : ℕ) (c : Stage) → exponent c < n → rank n c < n + n
-unfolding rank
-rank-small n (Butterfly e) l = omega arith
-rank-small n (Inverse e) l = omega arith
+position-small : (n : ℕ) (c : Stage) → exponent c < n → position n c < n + n
+unfolding position
+position-small n (Butterfly e) l = omega arith
+position-small n (Inverse e) l = omega arith
 
-stage-rank : (n : ℕ) (c : Stage) → exponent c < n → stage-at n (rank n c) ≡ c
-unfolding rank stage-at
-stage-rank n (Butterfly e) l =
+stage-position : (n : ℕ) (c : Stage) → exponent c < n → stage-at n (position n c) ≡ c
+unfolding position stage-at
+stage-position n (Butterfly e) l =
     let x : n - suc (n - suc e) ≡ e = omega arith in
     ap (λ (b : Bool). cond b (Butterfly (n - suc (n - suc e))) (Inverse (n - suc e - n))) (lt-ltb (n - suc e) n (omega arith))
     ∙ ap Butterfly x
-stage-rank n (Inverse e) l =
+stage-position n (Inverse e) l =
     let x : n + e - n ≡ e = omega arith in
     ap (λ (b : Bool). cond b (Butterfly (n - suc (n + e))) (Inverse (n + e - n))) (le-ltb (n + e) n (omega arith))
     ∙ ap Inverse x
 
--- r is the rank of the stage at r, which is in range
-record RankAt (n r : ℕ) (c : Stage) : Type 0 where
-  is : rank n c ≡ r
+-- r is the position of the stage at r, which is in range
+record PositionAt (n r : ℕ) (c : Stage) : Type 0 where
+  is : position n c ≡ r
   inside : exponent c < n
 
-rank-stage : (n r : ℕ) → r < n + n → RankAt n r (stage-at n r)
-unfolding rank stage-at
-rank-stage n r l = go (ltb r n) refl
+position-stage : (n r : ℕ) → r < n + n → PositionAt n r (stage-at n r)
+unfolding position stage-at
+position-stage n r l = go (ltb r n) refl
   where
-    go : (b : Bool) → ltb r n ≡ b → RankAt n r (cond b (Butterfly (n - suc r)) (Inverse (r - n)))
+    go : (b : Bool) → ltb r n ≡ b → PositionAt n r (cond b (Butterfly (n - suc r)) (Inverse (r - n)))
     go true e = let h = ltb-true r n e in record { is = omega arith; inside = omega arith }
     go false e = let h = ltb-false r n e in record { is = omega arith; inside = omega arith }
 
-earlier-rank : (n : ℕ) (c d : Stage) → exponent c < n → exponent d < n → Earlier c d → rank n c < rank n d
-unfolding rank
-earlier-rank n (Butterfly a) (Butterfly b) h k e = omega arith
-earlier-rank n (Butterfly a) (Inverse b) h k e = omega arith
-earlier-rank n (Inverse a) (Butterfly b) h k e = absurd e
-earlier-rank n (Inverse a) (Inverse b) h k e = omega arith
+earlier-position : (n : ℕ) (c d : Stage) → exponent c < n → exponent d < n → Earlier c d → position n c < position n d
+unfolding position
+earlier-position n (Butterfly a) (Butterfly b) h k e = omega arith
+earlier-position n (Butterfly a) (Inverse b) h k e = omega arith
+earlier-position n (Inverse a) (Butterfly b) h k e = absurd e
+earlier-position n (Inverse a) (Inverse b) h k e = omega arith
 
 same-unless : (a b : Bool) → ¬ (a ≢ b) → a ≡ b
 same-unless a b nn = go (Bool-discrete a b)
@@ -127,8 +127,8 @@ module _ (n : ℕ) (C D : StageControls) where
   agree-or-later lead =
       go (least-or-none (λ r. FirstApart (stage-at n r)) (λ r. stage-apart? (stage-at n r)) (n + n))
     where
-      at-rank : (c : Stage) → exponent c < n → ¬ (FirstApart (stage-at n (rank n c))) → ¬ (FirstApart c)
-      at-rank c h none = subst (λ (d : Stage). ¬ (FirstApart d)) (stage-rank n c h) none
+      at-position : (c : Stage) → exponent c < n → ¬ (FirstApart (stage-at n (position n c))) → ¬ (FirstApart c)
+      at-position c h none = subst (λ (d : Stage). ¬ (FirstApart d)) (stage-position n c h) none
 
       go :
           Least (λ r. FirstApart (stage-at n r)) (n + n)
@@ -137,15 +137,15 @@ module _ (n : ℕ) (C D : StageControls) where
       go (inr none) =
           inl
           (λ c s i.
-          stage-same c (at-rank c (i .at-stage) (none (rank n c) (rank-small n c (i .at-stage)))) s
+          stage-same c (at-position c (i .at-stage) (none (position n c) (position-small n c (i .at-stage)))) s
           (i .switch))
       go (inl l) = inr (later-at lead c w (k .inside) before)
         where
           c : Stage
           c = stage-at n (l .value)
 
-          k : RankAt n (l .value) c
-          k = rank-stage n (l .value) (l .below)
+          k : PositionAt n (l .value) c
+          k = position-stage n (l .value) (l .below)
 
           w : FirstApart c
           w = l .holds
@@ -153,58 +153,10 @@ module _ (n : ℕ) (C D : StageControls) where
           before : AgreeBefore n C D c (w .value)
           before d t i (inl e) =
               stage-same d
-              (at-rank d (i .at-stage)
-              (l .first (rank n d)
-              (omega (arith, k .is, earlier-rank n d c (i .at-stage) (k .inside) e))))
+              (at-position d (i .at-stage)
+              (l .first (position n d)
+              (omega (arith, k .is, earlier-position n d c (i .at-stage) (k .inside) e))))
               t (i .switch)
           before d t i (inr (e, h)) =
               same-unless (C d t) (D d t)
               (λ ne. w .first t h (rw e at (apart-at d t (i .switch) ne)))
-
-stage-total : (c d : Stage) → Earlier c d ⊎ (c ≡ d) ⊎ Earlier d c
-stage-total (Butterfly a) (Butterfly b) = go (decLt b a) (decLt a b)
-  where
-    go : Dec (b < a) → Dec (a < b) → (b < a) ⊎ (Butterfly a ≡ Butterfly b) ⊎ (a < b)
-    go (yes l) r = inl l
-    go (no g) (yes l) = inr (inr l)
-    go (no g) (no k) = let e : a ≡ b = omega arith in inr (inl (ap Butterfly e))
-stage-total (Butterfly a) (Inverse b) = inl tt
-stage-total (Inverse a) (Butterfly b) = inr (inr tt)
-stage-total (Inverse a) (Inverse b) = go (decLt a b) (decLt b a)
-  where
-    go : Dec (a < b) → Dec (b < a) → (a < b) ⊎ (Inverse a ≡ Inverse b) ⊎ (b < a)
-    go (yes l) r = inl l
-    go (no g) (yes l) = inr (inr l)
-    go (no g) (no k) = let e : a ≡ b = omega arith in inr (inl (ap Inverse e))
-
--- the order of travel is total
-pub before-total :
-    (c : Stage) (s : ℕ) (d : Stage) (t : ℕ)
-    → SwitchBefore c s d t ⊎ ((c ≡ d) × (s ≡ t)) ⊎ SwitchBefore d t c s
-before-total c s d t = go (stage-total c d) (decLt s t) (decLt t s)
-  where
-    go :
-        Earlier c d ⊎ (c ≡ d) ⊎ Earlier d c
-        → Dec (s < t)
-        → Dec (t < s)
-        → SwitchBefore c s d t ⊎ ((c ≡ d) × (s ≡ t)) ⊎ SwitchBefore d t c s
-    go (inl e) a b = inl (inl e)
-    go (inr (inr e)) a b = inr (inr (inl e))
-    go (inr (inl e)) (yes l) b = inl (inr (e, l))
-    go (inr (inl e)) (no g) (yes l) = inr (inr (inr (sym e, l)))
-    go (inr (inl e)) (no g) (no k) = let q : s ≡ t = omega arith in inr (inl (e, q))
-
--- no two sets come later than each other
-pub later-asym : (n : ℕ) (C D : StageControls) → ComesLater n C D → ComesLater n D C → ⊥
-later-asym n C D l k = go (before-total (l .at-stage) (l .switch) (k .at-stage) (k .switch))
-  where
-    go :
-        SwitchBefore (l .at-stage) (l .switch) (k .at-stage) (k .switch)
-        ⊎ ((l .at-stage ≡ k .at-stage) × (l .switch ≡ k .switch))
-        ⊎ SwitchBefore (k .at-stage) (k .switch) (l .at-stage) (l .switch)
-        → ⊥
-    go (inl b) =
-        true≢false (sym (l .swaps) ∙ k .before (l .at-stage) (l .switch) (l .inside) b ∙ l .passes)
-    go (inr (inr b)) =
-        true≢false (sym (k .swaps) ∙ l .before (k .at-stage) (k .switch) (k .inside) b ∙ k .passes)
-    go (inr (inl (c, s))) = true≢false (sym (k .swaps) ∙ (cc) ∙ l .passes)

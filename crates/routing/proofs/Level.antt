@@ -11,15 +11,15 @@ use borrow.Author.Tests.{lt-ltb, le-ltb, ltb-true, ltb-false}
 use Rattle.routing.specs.Place.{Place, weight, num, place}
 use Rattle.routing.specs.Loop.{Maps, IsPermutation, xor, flip, side, sent, firstStage, lastStage, between}
 use Rattle.routing.specs.Net.{firstNet, part}
-use Rattle.routing.specs.Stages.{Butterfly, Inverse, StageControls}
-use Rattle.routing.specs.FirstControls.{Permutes, onPlaces}
+use Rattle.routing.specs.Stages.{Butterfly, Inverse, StageControls, Agree}
+use Rattle.routing.specs.FirstControls.{Permutes, onPlaces, firstControls}
 use Rattle.routing.specs.Level.{other, firstSwap, lastSwap, halfTo, halfFrom}
 use Rattle.routing.proofs.Stage.{maps-path}
 use Rattle.routing.proofs.PlaceNumbers.{num-lt, place-num, weight-top, weight-rest}
 use Rattle.routing.proofs.Halves.{first-first, first-last, first-half, left-part, part-to, part-from}
 use Rattle.routing.proofs.Through.{within}
 use Rattle.routing.proofs.Leads.{ReadsNet, reads-join}
-use Rattle.routing.proofs.FirstControls.{on-places, permutes-places}
+use Rattle.routing.proofs.FirstControls.{on-places, permutes-places, agree-reads, reads-agree}
 
 -- a place's switch, its half and its partner, by its number
 pub num-switch : (n : ℕ) (p : Place (suc n)) → num n (p .1) ≡ num (suc n) p % 2 ^ n
@@ -61,13 +61,6 @@ other-mod n y l = go (ltb y (2 ^ n)) refl
 pub num-flip : (n : ℕ) (p : Place (suc n)) → num (suc n) (flip p) ≡ other n (num (suc n) p)
 unfolding num flip
 num-flip n p = sym (other-weight n (num n (p .1)) (p .0) (num-lt n (p .1)))
-
--- C has the controls of the first net of a permutation
-abbrev pub ReadsFirst : (n : ℕ) → StageControls → (ℕ → ℕ) → (ℕ → ℕ) → Type 0
-ReadsFirst n C π ρ = ReadsNet n C (firstNet n (onPlaces n π ρ))
-
-pub reads-none : (C : StageControls) (π ρ : ℕ → ℕ) → ReadsFirst 0 C π ρ
-reads-none C π ρ = record { butterfly = tt; inverse = tt }
 
 module _ (n : ℕ) (π ρ : ℕ → ℕ) (perm : Permutes (2 ^ suc n) π ρ) where
   abbrev m : Maps (Place (suc n))
@@ -122,17 +115,19 @@ module _ (n : ℕ) (π ρ : ℕ → ℕ) (perm : Permutes (2 ^ suc n) π ρ) whe
           (subst IsPermutation (half-part f g first last h) (left-part n m ok h))
 
       -- the two outer stages and the halves make the whole
-      pub reads-step :
+      pub first-step :
           (C : StageControls)
           → ((s : ℕ) → s < 2 ^ n → C (Butterfly n) s ≡ f s)
           → ((s : ℕ) → s < 2 ^ n → C (Inverse n) s ≡ g s)
-          → ((h : Bool) → ReadsFirst n (within n h C) (halfTo n π g h) (halfFrom n ρ f h))
-          → ReadsFirst (suc n) C π ρ
-      reads-step C cf cg halves =
-          reads-join n C (firstNet (suc n) m)
+          → ((h : Bool) → Agree n (within n h C) (firstControls n (halfTo n π g h) (halfFrom n ρ f h)))
+          → Agree (suc n) C (firstControls (suc n) π ρ)
+      unfolding firstControls
+      first-step C cf cg halves =
+          reads-agree (suc n) C (firstNet (suc n) m)
+          (reads-join n C (firstNet (suc n) m)
           (λ q. cf (num n q) (num-lt n q) ∙ first q ∙ ap (λ (k : Place n → Bool). k q) (sym (first-first n m ok)))
           (λ q. cg (num n q) (num-lt n q) ∙ last q ∙ ap (λ (k : Place n → Bool). k q) (sym (first-last n m ok)))
           (λ h.
           subst (ReadsNet n (within n h C))
           (ap (firstNet n) (sym (half-part f g first last h)) ∙ sym (first-half n m ok h))
-          (halves h))
+          (agree-reads n (within n h C) (firstNet n (onPlaces n (halfTo n π g h) (halfFrom n ρ f h))) (halves h))))

@@ -1,14 +1,13 @@
--- One level: loops close, no loop meets both bits of a switch, and the first stage by least switches is valid and first.
+-- One level: loops close, no loop meets both bits of a switch, a valid stage sends a loop to one side, and a loop has one least switch.
 -- Assumes nothing.
 use mathlib.Core.Path.{_≡_, refl, sym, ap, _∙_}
 use mathlib.Core.Logic.{_⊎_, inl, inr}
-use mathlib.Core.Bool.{Bool, true, false, cond}
+use mathlib.Core.Bool.{Bool}
 use Prim.Native.Nat.{ℕ, zero, suc, _+_, _-_, _≤_, _<_}
 use native.Mathlib.Nat.{suc-add, zero-add, add-comm}
 use native.Mathlib.Decide.{decLt}
 use native.Mathlib.Omega.{arith}
-use lib.Dec.{leb}
-use Rattle.routing.specs.Loop.{Maps, IsPermutation, flip, side, Valid, loopTurn, loopTurns, least}
+use Rattle.routing.specs.Loop.{Maps, IsPermutation, flip, side, Valid, loopTurn, loopTurns}
 use Rattle.routing.proofs.Finite.{pigeonhole}
 use Rattle.routing.proofs.Stage.{not-not, flip-flip, flip-ne, same-switch, side-flip}
 
@@ -29,7 +28,7 @@ module _ {S : Type 0} (m : Maps (Bool × S)) (perm : IsPermutation m) where
   turn-back x =
       rw (flip-flip (m .to (flip (m .from x))), perm .from-to (flip (m .from x)), flip-flip (m .from x), perm .to-from x)
 
-  pub turn-injective : (x y : Bool × S) → loopTurn m x ≡ loopTurn m y → x ≡ y
+  turn-injective : (x y : Bool × S) → loopTurn m x ≡ loopTurn m y → x ≡ y
   turn-injective x y e = cc (turn-back x, turn-back y, flip-flip x, flip-flip y)
 
   pub turns-suc : (k : ℕ) (x : Bool × S) → loopTurns m (suc k) x ≡ loopTurn m (loopTurns m k x)
@@ -37,12 +36,12 @@ module _ {S : Type 0} (m : Maps (Bool × S)) (perm : IsPermutation m) where
   turns-suc zero x = refl
   turns-suc (suc k) x = turns-suc k (loopTurn m x)
 
-  pub turns-add : (j k : ℕ) (x : Bool × S) → loopTurns m (j + k) x ≡ loopTurns m k (loopTurns m j x)
+  turns-add : (j k : ℕ) (x : Bool × S) → loopTurns m (j + k) x ≡ loopTurns m k (loopTurns m j x)
   unfolding loopTurns
   turns-add zero k x = rw zero-add
   turns-add (suc j) k x = rw suc-add (turns-add j k (loopTurn m x))
 
-  pub turns-injective : (k : ℕ) (x y : Bool × S) → loopTurns m k x ≡ loopTurns m k y → x ≡ y
+  turns-injective : (k : ℕ) (x y : Bool × S) → loopTurns m k x ≡ loopTurns m k y → x ≡ y
   unfolding loopTurns
   turns-injective zero x y e = e
   turns-injective (suc k) x y e = turn-injective x y (turns-injective k (loopTurn m x) (loopTurn m y) e)
@@ -54,7 +53,7 @@ module _ {S : Type 0} (m : Maps (Bool × S)) (perm : IsPermutation m) where
       (cc (perm .from-to (flip (m .from x)), flip-flip x, flip-flip (m .to (flip (m .from x))), e))
 
   -- no loop meets both bits of a switch
-  pub no-flip : (k : ℕ) (x : Bool × S) → loopTurns m k x ≡ flip x → ⊥
+  no-flip : (k : ℕ) (x : Bool × S) → loopTurns m k x ≡ flip x → ⊥
   unfolding loopTurns
   no-flip zero x e = flip-ne x (sym e)
   no-flip (suc zero) x e = turn-ne-flip x e
@@ -81,14 +80,14 @@ module _ {S : Type 0} (m : Maps (Bool × S)) (perm : IsPermutation m) where
       ∙ same-on-loop d (loopTurns m i x) (ap (λ (y : Bool × S). y .1) (sym (turns-add i d x)) ∙ e))
 
   -- the loop of the other bits runs the other way
-  pub turns-back : (k : ℕ) (x : Bool × S) → loopTurns m k (flip (loopTurns m k x)) ≡ flip x
+  turns-back : (k : ℕ) (x : Bool × S) → loopTurns m k (flip (loopTurns m k x)) ≡ flip x
   unfolding loopTurns
   turns-back zero x = refl
   turns-back (suc k) x =
       turns-suc k (flip (loopTurns m k (loopTurn m x))) ∙ ap (loopTurn m) (turns-back k (loopTurn m x)) ∙ turn-back x
 
   -- a valid stage sends a loop to one side
-  pub side-turn : (f : S → Bool) → Valid m f → (x : Bool × S) → side f (loopTurn m x) ≡ side f x
+  side-turn : (f : S → Bool) → Valid m f → (x : Bool × S) → side f (loopTurn m x) ≡ side f x
   unfolding loopTurn
   side-turn f valid x =
       cc
@@ -175,10 +174,10 @@ module _ {S : Type 0} (K : Numbered S) (m : Maps (Bool × S)) (perm : IsPermutat
       (ap (λ (u : Bool × S). u .1) (r .ends) ∙ K .injective (y .1) (z .1) e)
 
   -- a loop is met within its period
-  pub within : (x : Bool × S) (p : Period x) (i : ℕ) → (j : ℕ) × (j ≤ p .rest) × (loopTurns m i x ≡ loopTurns m j x)
+  pub within-period : (x : Bool × S) (p : Period x) (i : ℕ) → (j : ℕ) × (j ≤ p .rest) × (loopTurns m i x ≡ loopTurns m j x)
   unfolding loopTurns
-  within x p zero = (0, omega arith, refl)
-  within x p (suc i) = go (within x p i)
+  within-period x p zero = (0, omega arith, refl)
+  within-period x p (suc i) = go (within-period x p i)
     where
       go : (j : ℕ) × (j ≤ p .rest) × (loopTurns m i x ≡ loopTurns m j x) → (j : ℕ) × (j ≤ p .rest) × (loopTurns m (suc i) x ≡ loopTurns m j x)
       go r = at (r .0) (r .1) (turns-suc m perm i x ∙ ap (loopTurn m) (r .2) ∙ sym (turns-suc m perm (r .0) x)) (decLt (r .0) (p .rest))
@@ -186,12 +185,3 @@ module _ {S : Type 0} (K : Numbered S) (m : Maps (Bool × S)) (perm : IsPermutat
           at : (j : ℕ) → j ≤ p .rest → loopTurns m (suc i) x ≡ loopTurns m (suc j) x → Dec (j < p .rest) → (j : ℕ) × (j ≤ p .rest) × (loopTurns m (suc i) x ≡ loopTurns m j x)
           at j h e (yes l) = (suc j, l, e)
           at j h e (no g) = let q : j ≡ p .rest = omega arith in (0, omega arith, e ∙ ap (λ (k : ℕ). loopTurns m (suc k) x) q ∙ p .closes)
-
-  pub least-on : (k : ℕ) (x : Bool × S) → Reach m x (least (K .index) m k x)
-  unfolding least loopTurns
-  least-on zero x = record { steps = 0; ends = refl }
-  least-on (suc k) x = go (leb (K .index (x .1)) (K .index (least (K .index) m k (loopTurn m x) .1))) (least-on k (loopTurn m x))
-    where
-      go : (b : Bool) → Reach m (loopTurn m x) (least (K .index) m k (loopTurn m x)) → Reach m x (cond b x (least (K .index) m k (loopTurn m x)))
-      go true r = record { steps = 0; ends = refl }
-      go false r = record { steps = suc (r .steps); ends = r .ends }

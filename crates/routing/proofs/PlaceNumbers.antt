@@ -47,7 +47,7 @@ place-num (suc n) p =
 pub num-injective : (n : ℕ) (p q : Place n) → num n p ≡ num n q → p ≡ q
 num-injective n p q e = sym (place-num n p) ∙ ap (place n) e ∙ place-num n q
 
-split-top : (n x : ℕ) → x < 2 ^ suc n → weight (leb (2 ^ n) x) n + x % 2 ^ n ≡ x
+pub split-top : (n x : ℕ) → x < 2 ^ suc n → weight (leb (2 ^ n) x) n + x % 2 ^ n ≡ x
 unfolding weight
 split-top n x l = go (leb (2 ^ n) x) refl
   where

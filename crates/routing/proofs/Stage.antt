@@ -9,7 +9,7 @@ pub not-not : (b : Bool) → not (not b) ≡ b
 not-not true = refl
 not-not false = refl
 
-pub not-ne : (b : Bool) → not b ≡ b → ⊥
+not-ne : (b : Bool) → not b ≡ b → ⊥
 not-ne true e = false≢true e
 not-ne false e = true≢false e
 
@@ -17,7 +17,7 @@ pub xor-xor : (a b : Bool) → xor a (xor a b) ≡ b
 xor-xor false b = refl
 xor-xor true b = not-not b
 
-pub xor-not : (a b : Bool) → xor a (not b) ≡ not (xor a b)
+xor-not : (a b : Bool) → xor a (not b) ≡ not (xor a b)
 xor-not false b = refl
 xor-not true b = refl
 

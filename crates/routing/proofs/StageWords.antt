@@ -14,7 +14,7 @@ use Rattle.routing.specs.Stages.{Butterfly, Inverse, StageControls, InRa
 use Rattle.routing.specs.FirstControls.{IsFirst}
 use Rattle.routing.specs.Lists.{entry, ListPermutes, controlsOf, wordOf, controlIn, butterflyWords, inverseWords, butterflyFrom, inverseFrom, wordsOf, fromWords, firstWords}
 use Rattle.routing.proofs.Through.{digit-offset}
-use Rattle.routing.proofs.FirstControls.{first-cong, first-unique}
+use Rattle.routing.proofs.FirstControls.{first-cong}
 use Rattle.routing.proofs.ListControls.{list-first}
 
 pub word-small : (k : ℕ) (c : ℕ → Bool) → wordOf k c < 2 ^ k
@@ -128,7 +128,7 @@ inverse-words n c e s i =
     (ap (λ (x : ℕ). controlIn x s) (inverse-word w 0 n c e e (omega arith) (i .at-stage))
     ∙ control-word w (c e) s (switch-small n e s i))
 
-pub words-agree : (n : ℕ) (C : StageControls) → Agree n C (fromWords n (wordsOf n C))
+words-agree : (n : ℕ) (C : StageControls) → Agree n C (fromWords n (wordsOf n C))
 unfolding wordsOf
 words-agree n C (Butterfly e) s i = butterfly-words n (λ e. C (Butterfly e)) e s i
 words-agree n C (Inverse e) s i = inverse-words n (λ e. C (Inverse e)) e s i
@@ -174,7 +174,7 @@ words-cong n C D agree = λ i.
       inverse = inverse-words-cong n (λ e. C (Inverse e)) (λ e. D (Inverse e)) (λ e. agree (Inverse e)) i;
     }
 
--- the words for a permutation stand for the first controls that bring it, and only they do
+-- the words for a permutation stand for the first controls that bring it
 pub first-words :
     (n : ℕ) (entries : List ℕ) → ListPermutes (2 ^ n) entries → IsFirst n (fromWords n (firstWords n entries)) (entry entries)
 unfolding firstWords
@@ -182,14 +182,3 @@ first-words n entries is =
     first-cong n (entry entries) (controlsOf n entries) (fromWords n (wordsOf n (controlsOf n entries)))
     (words-agree n (controlsOf n entries))
     (list-first n entries is)
-
-pub first-words-unique :
-    (n : ℕ) (entries : List ℕ)
-    → ListPermutes (2 ^ n) entries
-    → (C : StageControls)
-    → IsFirst n C (entry entries)
-    → wordsOf n C ≡ firstWords n entries
-unfolding firstWords
-first-words-unique n entries is C first =
-    words-cong n C (controlsOf n entries)
-    (first-unique n (entry entries) C (controlsOf n entries) first (list-first n entries is))

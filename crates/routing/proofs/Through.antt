@@ -1,18 +1,19 @@
--- Stages by numbers: a stage inside one half, and the stage of the two halves.
+-- Stages by numbers: a stage inside one half, the stage of the two halves; a stage undoes itself, and so the networks undo each other.
 -- Assumes nothing.
-use mathlib.Core.Path.{_≡_, refl, ap, ap₂, _∙_}
+use mathlib.Core.Path.{_≡_, refl, sym, ap, ap₂, _∙_}
 use mathlib.Core.Bool.{Bool, true, false, not, cond}
 use Prim.Native.Nat.{ℕ, zero, suc, _+_, _-_, _*_, _/_, _%_, _^_, _≤_, _<_}
-use native.Mathlib.Nat.{pow-suc, add-div-left, div-eq-of-lt, mul-add-div-right, mul-add-mod-self-right}
+use native.Mathlib.Nat.{pow-suc, add-div-left, div-eq-of-lt, div-add-mod', mod-lt, mul-add-div-right, mul-add-mod-self-right}
 use native.Mathlib.Decide.{decLt}
 use native.Mathlib.Omega.{arith}
-use lib.Dec.{eqb}
+use lib.Dec.{eqb, leb}
 use lib.Pow.{pow-pos, pow-add}
 use borrow.Author.Tests.{eqb-false}
 use Rattle.routing.specs.Place.{Place, weight, num}
 use Rattle.routing.specs.Loop.{xor, side, sent}
 use Rattle.routing.specs.Stages.{switchAt, partnerAt, through, butterfly, inverse}
-use Rattle.routing.proofs.PlaceNumbers.{num-lt, weight-le, weight-rest}
+use Rattle.routing.proofs.Stage.{xor-xor}
+use Rattle.routing.proofs.PlaceNumbers.{num-lt, weight-le, weight-rest, split-top}
 
 -- H blocks of twice the distance to the right: everything moves by them
 module _ (e H x : ℕ) where
@@ -93,17 +94,6 @@ butterfly-weight (suc e) k l h c x =
     ap (through e (c e)) (butterfly-weight e k (omega arith) h c x)
     ∙ through-weight e k (omega arith) h (c e) (butterfly e (λ d s. c d (weight h k + s)) x)
 
-inverse-weight :
-    (e k : ℕ)
-    → e ≤ suc k
-    → (h : Bool) (c : ℕ → ℕ → Bool) (x : ℕ)
-    → inverse e c (weight h (suc k) + x) ≡ weight h (suc k) + inverse e (λ d s. c d (weight h k + s)) x
-unfolding inverse
-inverse-weight zero k l h c x = refl
-inverse-weight (suc e) k l h c x =
-    ap (inverse e c) (through-weight e k (omega arith) h (c e) x)
-    ∙ inverse-weight e k (omega arith) h c (through e (λ s. c e (weight h k + s)) x)
-
 -- the stages of half h
 abbrev pub within : {A : Type 0} (n : ℕ) → Bool → (A → ℕ → Bool) → A → ℕ → Bool
 within zero h c = c
@@ -114,12 +104,6 @@ pub butterfly-within :
     → butterfly n c (weight h n + x) ≡ weight h n + butterfly n (within n h c) x
 butterfly-within zero h c x = unfold butterfly in refl
 butterfly-within (suc k) h c x = butterfly-weight (suc k) k (omega arith) h c x
-
-pub inverse-within :
-    (n : ℕ) (h : Bool) (c : ℕ → ℕ → Bool) (x : ℕ)
-    → inverse n c (weight h n + x) ≡ weight h n + inverse n (within n h c) x
-inverse-within zero h c x = unfold inverse in refl
-inverse-within (suc k) h c x = inverse-weight (suc k) k (omega arith) h c x
 
 -- the stage that joins the halves
 switch-top : (h : Bool) (n x : ℕ) → x < 2 ^ n → switchAt n (weight h n + x) ≡ x
@@ -158,7 +142,7 @@ through-top n c f is p =
     go false = refl
 
 -- A stage of distance d = 2^e as the paper has it: switch j*d + t joins bits 2*j*d + t and 2*j*d + t + d.
-pub stage-joins :
+stage-joins :
     (e j t : ℕ) (h : Bool) (c : ℕ → Bool)
     → t < 2 ^ e
     → through e c (j * 2 ^ suc e + (weight h e + t))
@@ -176,3 +160,33 @@ stage-joins e j t h c l =
     go : (b : Bool) → cond b (weight (not h) e + t) (weight h e + t) ≡ weight (xor b h) e + t
     go true = refl
     go false = refl
+
+-- it undoes itself
+through-through : (e : ℕ) (c : ℕ → Bool) (x : ℕ) → through e c (through e c x) ≡ x
+through-through e c x =
+    let d = 2 ^ suc e in
+    let r = x % d in
+    let h = leb (2 ^ e) r in
+    let t = r % 2 ^ e in
+    let l = mod-lt r (pow-pos e) in
+    let b = c (x / d * 2 ^ e + t) in
+    let split : x ≡ x / d * d + (weight h e + t) =
+    sym (div-add-mod' x d) ∙ ap (λ (y : ℕ). x / d * d + y) (sym (split-top e r (mod-lt x (pow-pos (suc e))))) in
+    ap (λ (y : ℕ). through e c (through e c y)) split
+    ∙ ap (through e c) (stage-joins e (x / d) t h c l)
+    ∙ stage-joins e (x / d) t (xor b h) c l
+    ∙ ap (λ (g : Bool). x / d * d + (weight g e + t)) (xor-xor b h)
+    ∙ sym split
+
+-- so the inverse undoes the butterfly of the same controls, and the other way
+pub butterfly-inverse : (n : ℕ) (c : ℕ → ℕ → Bool) (p : ℕ) → butterfly n c (inverse n c p) ≡ p
+unfolding butterfly inverse
+butterfly-inverse zero c p = refl
+butterfly-inverse (suc e) c p =
+    ap (through e (c e)) (butterfly-inverse e c (through e (c e) p)) ∙ through-through e (c e) p
+
+pub inverse-butterfly : (n : ℕ) (c : ℕ → ℕ → Bool) (p : ℕ) → inverse n c (butterfly n c p) ≡ p
+unfolding butterfly inverse
+inverse-butterfly zero c p = refl
+inverse-butterfly (suc e) c p =
+    ap (inverse e c) (through-through e (c e) (butterfly e c p)) ∙ inverse-butterfly e c p

@@ -8,9 +8,10 @@ use native.Mathlib.Decide.{decLt, ℕ-discrete}
 use native.Mathlib.Omega.{arith}
 use Rattle.routing.specs.Loop.{Maps, IsPermutation, xor, pass, flip, side, loopTurn, loopTurns}
 use Rattle.routing.specs.Marks.{Mark, unset, set, Marks, Given, Right, SetTo}
+use Rattle.routing.specs.Walk.{stand, LoopsSet, Walk}
 use Rattle.routing.proofs.Stage.{flip-switch, same-switch}
-use Rattle.routing.proofs.Loop.{Numbered, turn-back, turns-suc, side-turns, same-on-loop, Period, period, reach-sym, return, repeats}
-use Rattle.routing.proofs.First.{leastOf, least-is, stageOne, first-valid, passes-if-least}
+use Rattle.routing.proofs.Loop.{Numbered, turn-back, turns-suc, side-turns, same-on-loop, reach-sym, return, repeats}
+use Rattle.routing.proofs.First.{leastOf, least-is, firstOf, first-valid, passes-if-least}
 
 given-or-unset : {S : Type 0} (M : Marks S) (s : S) → Given M s ⊎ (M s ≡ unset)
 given-or-unset M s = go (M s) refl
@@ -42,13 +43,7 @@ module _ {S : Type 0} (K : Numbered S) (m : Maps (Bool × S)) (perm : IsPermutat
   turn-back-switch : (x : Bool × S) → loopTurn m (flip (loopTurn m x)) .1 ≡ x .1
   turn-back-switch x = ap (λ (y : Bool × S). y .1) (turn-back m perm x) ∙ flip-switch x
 
-  -- between two loops: all switches below k are set, what is set is right, and whole loops are set
-  pub record Settled (k : ℕ) (M : Marks S) : Type 0 where
-    pub right : Right (stageOne K m perm) M
-    pub below : (s : S) → K .index s < k → Given M s
-    pub closed : (x : Bool × S) → Given M (x .1) → Given M (loopTurn m x .1)
-
-  pub settled-start : (M : Marks S) → ((s : S) → M s ≡ unset) → Settled 0 M
+  pub settled-start : (M : Marks S) → ((s : S) → M s ≡ unset) → LoopsSet (K .index) (K .count) m 0 M
   settled-start M none =
       record {
         right = λ s v e. absurd (given-not-unset M s (record { value = v; is = e }) (none s));
@@ -56,7 +51,7 @@ module _ {S : Type 0} (K : Numbered S) (m : Maps (Bool × S)) (perm : IsPermutat
         closed = λ x g. absurd (given-not-unset M (x .1) g (none (x .1)));
       }
 
-  extend : {k : ℕ} {M : Marks S} → Settled k M → (s : S) → K .index s ≡ k → Given M s → (t : S) → K .index t < suc k → Given M t
+  extend : {k : ℕ} {M : Marks S} → LoopsSet (K .index) (K .count) m k M → (s : S) → K .index s ≡ k → Given M s → (t : S) → K .index t < suc k → Given M t
   extend {k} {M} st s e g t h = go (decLt (K .index t) k)
     where
       go : Dec (K .index t < k) → Given M t
@@ -64,23 +59,23 @@ module _ {S : Type 0} (K : Numbered S) (m : Maps (Bool × S)) (perm : IsPermutat
       go (no n) = let q : K .index s ≡ K .index t = omega arith in rw (K .injective s t q) at g
 
   -- a start that is set already is passed over
-  pub settled-skip : {M : Marks S} (s : S) → Settled (K .index s) M → Given M s → Settled (suc (K .index s)) M
+  pub settled-skip : {M : Marks S} (s : S) → LoopsSet (K .index) (K .count) m (K .index s) M → Given M s → LoopsSet (K .index) (K .count) m (suc (K .index s)) M
   settled-skip {M} s st g =
       record { right = st .right; below = extend st s refl g; closed = st .closed }
 
   -- in the end the stage is the first stage
-  pub settled-end : {M : Marks S} → Settled (K .count) M → (s : S) → M s ≡ set (stageOne K m perm s)
+  pub settled-end : {M : Marks S} → LoopsSet (K .index) (K .count) m (K .count) M → (s : S) → M s ≡ set (firstOf K m perm s)
   settled-end {M} st s =
       let g = st .below s (K .small s) in
       g .is ∙ ap set (sym (st .right s (g .value) (g .is)))
 
-  closed-turns : {k : ℕ} {M : Marks S} → Settled k M → (j : ℕ) (x : Bool × S) → Given M (x .1) → Given M (loopTurns m j x .1)
+  closed-turns : {k : ℕ} {M : Marks S} → LoopsSet (K .index) (K .count) m k M → (j : ℕ) (x : Bool × S) → Given M (x .1) → Given M (loopTurns m j x .1)
   unfolding loopTurns
   closed-turns st zero x g = g
   closed-turns st (suc j) x g = closed-turns st j (loopTurn m x) (st .closed x g)
 
   -- an unset switch with all below it set is the least of its loop
-  pub fresh-passes : {M : Marks S} (s : S) → Settled (K .index s) M → M s ≡ unset → stageOne K m perm s ≡ pass
+  fresh-passes : {M : Marks S} (s : S) → LoopsSet (K .index) (K .count) m (K .index s) M → M s ≡ unset → firstOf K m perm s ≡ pass
   fresh-passes {M} s st none =
       passes-if-least K m perm s
       (λ l.
@@ -89,19 +84,6 @@ module _ {S : Type 0} (K : Numbered S) (m : Maps (Bool × S)) (perm : IsPermutat
       closed-turns st (r .steps) (leastOf K m perm (false, s))
       (st .below (leastOf K m perm (false, s) .1) l) in
       given-not-unset M s (rw (r .ends) at g) none)
-
-  -- the walk from the high bit of a start s: j turns done
-  abbrev pub stand : S → ℕ → Bool × S
-  stand s j = loopTurns m j (true, s)
-
-  pub record Walk (M₀ : Marks S) (s : S) (j : ℕ) (M : Marks S) : Type 0 where
-    pub before : Settled (K .index s) M₀
-    pub fresh : M₀ s ≡ unset
-    pub right : Right (stageOne K m perm) M
-    pub kept : (t : S) → Given M₀ t → Given M t
-    pub walked : (i : ℕ) → i ≤ j → Given M (stand s i .1)
-    pub only : (t : S) → Given M t → Given M₀ t ⊎ ((i : ℕ) × (i ≤ j) × (stand s i .1 ≡ t))
-    pub unclosed : (i : ℕ) → i < j → stand s (suc i) ≢ (true, s)
 
   -- what a store does to the facts of a walk
   module _ {M M′ : Marks S} {s : S} {v : Bool} (d : SetTo M s v M′) where
@@ -115,7 +97,7 @@ module _ {S : Type 0} (K : Numbered S) (m : Maps (Bool × S)) (perm : IsPermutat
         go (yes e) = rw e given-here
         go (no ne) = record { value = g .value; is = d .elsewhere t ne ∙ g .is }
 
-    pub given-only : (t : S) → Given M′ t → Given M t ⊎ (s ≡ t)
+    given-only : (t : S) → Given M′ t → Given M t ⊎ (s ≡ t)
     given-only t g = go (decide t s)
       where
         go : Dec (t ≡ s) → Given M t ⊎ (s ≡ t)
@@ -131,116 +113,105 @@ module _ {S : Type 0} (K : Numbered S) (m : Maps (Bool × S)) (perm : IsPermutat
 
   pub walk-start :
       {M M′ : Marks S} (s : S)
-      → Settled (K .index s) M
+      → LoopsSet (K .index) (K .count) m (K .index s) M
       → M s ≡ unset
       → SetTo M s pass M′
-      → Walk M s 0 M′
+      → Walk (K .index) (K .count) m M s 0 M′
   unfolding loopTurns
   walk-start {M} {M′} s st none d =
       record {
         before = st;
         fresh = none;
-        right = right-still d (stageOne K m perm) (st .right) (fresh-passes s st none);
+        right = right-still d (firstOf K m perm) (st .right) (fresh-passes s st none);
         kept = given-still d;
         walked = λ i h. at i h;
         only = λ t g. whence t (given-only d t g);
         unclosed = λ i h. absurd (omega arith);
       }
     where
-      at : (i : ℕ) → i ≤ 0 → Given M′ (stand s i .1)
+      at : (i : ℕ) → i ≤ 0 → Given M′ (stand m s i .1)
       at zero h = given-here d
       at (suc i) h = absurd (omega arith)
 
-      whence : (t : S) → Given M t ⊎ (s ≡ t) → Given M t ⊎ ((i : ℕ) × (i ≤ 0) × (stand s i .1 ≡ t))
+      whence : (t : S) → Given M t ⊎ (s ≡ t) → Given M t ⊎ ((i : ℕ) × (i ≤ 0) × (stand m s i .1 ≡ t))
       whence t (inl g) = inl g
       whence t (inr e) = inr (0, omega arith, e)
 
-  module _ {M₀ M : Marks S} {s : S} {j : ℕ} (w : Walk M₀ s j M) where
+  module _ {M₀ M : Marks S} {s : S} {j : ℕ} (w : Walk (K .index) (K .count) m M₀ s j M) where
     -- the bits of the walk go to the upper side
-    pub walk-side : (i : ℕ) → side (stageOne K m perm) (stand s i) ≡ true
+    pub walk-side : (i : ℕ) → side (firstOf K m perm) (stand m s i) ≡ true
     unfolding side
     walk-side i =
-        side-turns m perm (stageOne K m perm) (first-valid K m perm) i (true, s)
+        side-turns m perm (firstOf K m perm) (first-valid K m perm) i (true, s)
         ∙ ap (λ (b : Bool). xor b true) (fresh-passes s (w .before) (w .fresh))
 
     -- so a first switch swaps exactly if the walk meets its low bit
-    pub walk-value : (i : ℕ) → stageOne K m perm (stand s i .1) ≡ not (stand s i .0)
+    walk-value : (i : ℕ) → firstOf K m perm (stand m s i .1) ≡ not (stand m s i .0)
     unfolding side
-    walk-value i = xor-true (stageOne K m perm (stand s i .1)) (stand s i .0) (walk-side i)
-
-    -- the walk has fewer turns behind it than there are switches
-    pub walk-bound : j < K .count
-    walk-bound = go (decLt (p .rest) j)
-      where
-        p : Period K m perm (true, s)
-        p = period K m perm (true, s)
-
-        go : Dec (p .rest < j) → j < K .count
-        go (yes l) = absurd (w .unclosed (p .rest) l (p .closes))
-        go (no n) = omega (arith, p .short)
+    walk-value i = xor-true (firstOf K m perm (stand m s i .1)) (stand m s i .0) (walk-side i)
 
     -- the next switch is the start, or is unset
-    pub walk-next : stand s (suc j) .1 ≢ s → M (stand s (suc j) .1) ≡ unset
+    pub walk-next : stand m s (suc j) .1 ≢ s → M (stand m s (suc j) .1) ≡ unset
     unfolding loopTurns
-    walk-next ne = go (given-or-unset M (stand s (suc j) .1))
+    walk-next ne = go (given-or-unset M (stand m s (suc j) .1))
       where
-        go : Given M (stand s (suc j) .1) ⊎ (M (stand s (suc j) .1) ≡ unset) → M (stand s (suc j) .1) ≡ unset
+        go : Given M (stand m s (suc j) .1) ⊎ (M (stand m s (suc j) .1) ≡ unset) → M (stand m s (suc j) .1) ≡ unset
         go (inr e) = e
-        go (inl g) = absurd (from (w .only (stand s (suc j) .1) g))
+        go (inl g) = absurd (from (w .only (stand m s (suc j) .1) g))
           where
             from :
-                Given M₀ (stand s (suc j) .1) ⊎ ((i : ℕ) × (i ≤ j) × (stand s i .1 ≡ stand s (suc j) .1))
+                Given M₀ (stand m s (suc j) .1) ⊎ ((i : ℕ) × (i ≤ j) × (stand m s i .1 ≡ stand m s (suc j) .1))
                 → ⊥
             from (inl g₀) =
                 let r = return K m perm (suc j) (true, s) in
-                let g₁ = closed-turns (w .before) (r .steps) (stand s (suc j)) g₀ in
+                let g₁ = closed-turns (w .before) (r .steps) (stand m s (suc j)) g₀ in
                 given-not-unset M₀ s (rw (r .ends) at g₁) (w .fresh)
             from (inr (zero, h, e)) = ne (sym e)
             from (inr (suc i, h, e)) =
                 let q : suc j ≡ suc i + suc (j - suc i) = omega arith in
                 w .unclosed (j - suc i) (omega arith)
                 (repeats m perm (suc i) (suc (j - suc i)) (true, s)
-                (ap (λ (k : ℕ). stand s k .1) (sym q) ∙ sym e))
+                (ap (λ (k : ℕ). stand m s k .1) (sym q) ∙ sym e))
 
     pub walk-step :
         {M′ : Marks S}
-        → stand s (suc j) .1 ≢ s
-        → SetTo M (stand s (suc j) .1) (not (stand s (suc j) .0)) M′
-        → Walk M₀ s (suc j) M′
+        → stand m s (suc j) .1 ≢ s
+        → SetTo M (stand m s (suc j) .1) (not (stand m s (suc j) .0)) M′
+        → Walk (K .index) (K .count) m M₀ s (suc j) M′
     walk-step {M′} ne d =
         record {
           before = w .before;
           fresh = w .fresh;
-          right = right-still d (stageOne K m perm) (w .right) (walk-value (suc j));
+          right = right-still d (firstOf K m perm) (w .right) (walk-value (suc j));
           kept = λ t g. given-still d t (w .kept t g);
           walked = λ i h. at i h (decLt j i);
           only = λ t g. whence t (given-only d t g);
           unclosed = λ i h. apart i h (decLt i j);
         }
       where
-        at : (i : ℕ) → i ≤ suc j → Dec (j < i) → Given M′ (stand s i .1)
+        at : (i : ℕ) → i ≤ suc j → Dec (j < i) → Given M′ (stand m s i .1)
         at i h (yes l) = let e : suc j ≡ i = omega arith in rw e at (given-here d)
-        at i h (no n) = given-still d (stand s i .1) (w .walked i (omega arith))
+        at i h (no n) = given-still d (stand m s i .1) (w .walked i (omega arith))
 
         further :
             (t : S)
-            → Given M₀ t ⊎ ((i : ℕ) × (i ≤ j) × (stand s i .1 ≡ t))
-            → Given M₀ t ⊎ ((i : ℕ) × (i ≤ suc j) × (stand s i .1 ≡ t))
+            → Given M₀ t ⊎ ((i : ℕ) × (i ≤ j) × (stand m s i .1 ≡ t))
+            → Given M₀ t ⊎ ((i : ℕ) × (i ≤ suc j) × (stand m s i .1 ≡ t))
         further t (inl g) = inl g
         further t (inr (i, h, e)) = inr (i, omega arith, e)
 
         whence :
             (t : S)
-            → Given M t ⊎ (stand s (suc j) .1 ≡ t)
-            → Given M₀ t ⊎ ((i : ℕ) × (i ≤ suc j) × (stand s i .1 ≡ t))
+            → Given M t ⊎ (stand m s (suc j) .1 ≡ t)
+            → Given M₀ t ⊎ ((i : ℕ) × (i ≤ suc j) × (stand m s i .1 ≡ t))
         whence t (inl g) = further t (w .only t g)
         whence t (inr e) = inr (suc j, omega arith, e)
 
-        apart : (i : ℕ) → i < suc j → Dec (i < j) → stand s (suc i) ≢ (true, s)
+        apart : (i : ℕ) → i < suc j → Dec (i < j) → stand m s (suc i) ≢ (true, s)
         apart i h (yes l) = w .unclosed i l
         apart i h (no n) = λ e. let q : i ≡ j = omega arith in ne (rw (← q) (ap (λ (y : Bool × S). y .1) e))
 
-    pub walk-end : stand s (suc j) .1 ≡ s → Settled (suc (K .index s)) M
+    pub walk-end : stand m s (suc j) .1 ≡ s → LoopsSet (K .index) (K .count) m (suc (K .index s)) M
     unfolding loopTurns
     walk-end back =
         record {
@@ -249,7 +220,7 @@ module _ {S : Type 0} (K : Numbered S) (m : Maps (Bool × S)) (perm : IsPermutat
           closed = λ x g. onward x (w .only (x .1) g);
         }
       where
-        round : loopTurn m (stand s j) ≡ (true, s)
+        round : loopTurn m (stand m s j) ≡ (true, s)
         round = sym (turns-suc m perm j (true, s)) ∙ same-on-loop m perm (suc j) (true, s) back
 
         under : (t : S) → Dec (K .index t < K .index s) → K .index t < suc (K .index s) → Given M t
@@ -259,30 +230,30 @@ module _ {S : Type 0} (K : Numbered S) (m : Maps (Bool × S)) (perm : IsPermutat
             rw (K .injective s t q) at (w .walked 0 (omega arith))
 
         -- from a bit of the walk on, and from the other bit of its switch back
-        ahead : (i : ℕ) → i ≤ j → Dec (i < j) → Given M (loopTurn m (stand s i) .1)
+        ahead : (i : ℕ) → i ≤ j → Dec (i < j) → Given M (loopTurn m (stand m s i) .1)
         ahead i h (yes l) = rw (turns-suc m perm i (true, s)) at (w .walked (suc i) l)
         ahead i h (no n) =
             let q : i ≡ j = omega arith in
             rw (q, round) (w .walked 0 (omega arith))
 
-        behind : (i : ℕ) → i ≤ j → Given M (loopTurn m (flip (stand s i)) .1)
+        behind : (i : ℕ) → i ≤ j → Given M (loopTurn m (flip (stand m s i)) .1)
         behind zero h =
             given-along
-            (ap (λ (y : Bool × S). loopTurn m (flip y) .1) (sym round) ∙ turn-back-switch (stand s j))
+            (ap (λ (y : Bool × S). loopTurn m (flip y) .1) (sym round) ∙ turn-back-switch (stand m s j))
             (w .walked j (omega arith))
         behind (suc i) h =
             given-along
             (ap (λ (y : Bool × S). loopTurn m (flip y) .1) (turns-suc m perm i (true, s))
-            ∙ turn-back-switch (stand s i))
+            ∙ turn-back-switch (stand m s i))
             (w .walked i (omega arith))
 
         onward :
             (x : Bool × S)
-            → Given M₀ (x .1) ⊎ ((i : ℕ) × (i ≤ j) × (stand s i .1 ≡ x .1))
+            → Given M₀ (x .1) ⊎ ((i : ℕ) × (i ≤ j) × (stand m s i .1 ≡ x .1))
             → Given M (loopTurn m x .1)
         onward x (inl g) = w .kept (loopTurn m x .1) (w .before .closed x g)
-        onward x (inr (i, h, e)) = pick (same-switch x (stand s i) (sym e))
+        onward x (inr (i, h, e)) = pick (same-switch x (stand m s i) (sym e))
           where
-            pick : (x ≡ stand s i) ⊎ (x ≡ flip (stand s i)) → Given M (loopTurn m x .1)
+            pick : (x ≡ stand m s i) ⊎ (x ≡ flip (stand m s i)) → Given M (loopTurn m x .1)
             pick (inl p) = rw p (ahead i h (decLt i j))
             pick (inr p) = rw p (behind i h)

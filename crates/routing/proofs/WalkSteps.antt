@@ -3,18 +3,19 @@
 -- Assumes nothing.
 use mathlib.Core.Path.{_≡_, sym, ap, _∙_, subst}
 use mathlib.Core.Logic.{_≢_}
-use mathlib.Core.Bool.{Bool, true, not}
+use mathlib.Core.Bool.{Bool, true, false, not}
 use Prim.Native.Nat.{ℕ, suc, _+_, _%_, _^_, _<_}
 use lib.Dec.{leb}
 use Rattle.routing.specs.Place.{Place, weight, num, place}
 use Rattle.routing.specs.Loop.{Maps, IsPermutation, pass, flip, loopTurn, loopTurns}
 use Rattle.routing.specs.Marks.{Mark, unset, set, Marks, SetTo}
 use Rattle.routing.specs.FirstControls.{Permutes, onPlaces}
+use Rattle.routing.specs.Walk.{stand, LoopsDone, OnWalk}
 use Rattle.routing.specs.Level.{other, firstSwap, lastSwap, Sets}
 use Rattle.routing.proofs.Stage.{not-not, flip-switch}
 use Rattle.routing.proofs.Loop.{Numbered, turns-suc}
-use Rattle.routing.proofs.Walk.{Settled, settled-start, settled-skip, settled-end, Walk, stand, walk-start, walk-step, walk-end, walk-next, given-not-unset}
-use Rattle.routing.proofs.Feed.{Fed, Feeding, feed-start, feed-step, feed-end, fed-end}
+use Rattle.routing.proofs.Walk.{settled-start, settled-skip, settled-end, walk-start, walk-step, walk-end, walk-next, given-not-unset}
+use Rattle.routing.proofs.Feed.{feed-start, feed-step, feed-end, fed-end}
 use Rattle.routing.proofs.PlaceNumbers.{num-lt, num-place, place-num, numbered}
 use Rattle.routing.proofs.FirstControls.{on-places}
 use Rattle.routing.proofs.Level.{num-switch, num-half, num-flip}
@@ -53,34 +54,11 @@ module _ (n : ℕ) (π ρ : ℕ → ℕ) (perm : Permutes (2 ^ suc n) π ρ) whe
   unfolding onPlaces
   num-from x = num-place (suc n) (ρ (num (suc n) x)) (perm .from-small (num (suc n) x) (num-lt (suc n) x))
 
-  -- all switches below k are set, and they and their last switches are right
-  pub record Done (k : ℕ) (M G : ℕ → Mark) : Type 0 where
-    pub settled : Settled K m ok k (marks n M)
-    pub fed : Fed K m ok (marks n M) (marks n G)
-
-  -- on the walk from switch s, standing at bit y: its first switch is set, its last switch is to be set
-  pub record At (s y : ℕ) (M G : ℕ → Mark) : Type 0 where
-    pub start : s < 2 ^ n
-    pub old : Marks (Place n)
-    pub done : ℕ
-    pub walk : Walk K m ok old (place n s) done (marks n M)
-    pub feed : Feeding K m ok old (place n s) done (marks n G)
-    pub stands : num (suc n) (stand K m ok (place n s) done) ≡ y
-
-  -- its last switch is set too
-  pub record After (s y : ℕ) (M G : ℕ → Mark) : Type 0 where
-    pub start : s < 2 ^ n
-    pub old : Marks (Place n)
-    pub done : ℕ
-    pub walk : Walk K m ok old (place n s) done (marks n M)
-    pub feed : Feeding K m ok old (place n s) (suc done) (marks n G)
-    pub stands : num (suc n) (stand K m ok (place n s) done) ≡ y
-
   pub done-start :
       (M G : ℕ → Mark)
       → ((s : ℕ) → s < 2 ^ n → M s ≡ unset)
       → ((s : ℕ) → s < 2 ^ n → G s ≡ unset)
-      → Done 0 M G
+      → LoopsDone n π ρ 0 M G
   done-start M G ms gs =
       record {
         settled = settled-start K m ok (marks n M) (λ q. ms (num n q) (num-lt n q));
@@ -93,7 +71,7 @@ module _ (n : ℕ) (π ρ : ℕ → ℕ) (perm : Permutes (2 ^ suc n) π ρ) whe
             };
       }
 
-  pub done-skip : (s : ℕ) (v : Bool) (M G : ℕ → Mark) → s < 2 ^ n → Done s M G → M s ≡ set v → Done (suc s) M G
+  pub done-skip : (s : ℕ) (v : Bool) (M G : ℕ → Mark) → s < 2 ^ n → LoopsDone n π ρ s M G → M s ≡ set v → LoopsDone n π ρ (suc s) M G
   done-skip s v M G l d e =
       let q = num-place n s l in
       record {
@@ -107,7 +85,7 @@ module _ (n : ℕ) (π ρ : ℕ → ℕ) (perm : Permutes (2 ^ suc n) π ρ) whe
     pub first : M s ≡ set (firstSwap n π ρ s)
     pub last : G s ≡ set (lastSwap n π ρ s)
 
-  pub done-end : (M G : ℕ → Mark) → Done (2 ^ n) M G → (s : ℕ) → s < 2 ^ n → Set M G s
+  pub done-end : (M G : ℕ → Mark) → LoopsDone n π ρ (2 ^ n) M G → (s : ℕ) → s < 2 ^ n → Set M G s
   unfolding firstSwap lastSwap
   done-end M G d s l =
       let q = num-place n s l in
@@ -120,10 +98,10 @@ module _ (n : ℕ) (π ρ : ℕ → ℕ) (perm : Permutes (2 ^ suc n) π ρ) whe
   pub at-start :
       (s : ℕ) (M G M′ : ℕ → Mark)
       → s < 2 ^ n
-      → Done s M G
+      → LoopsDone n π ρ s M G
       → M s ≡ unset
       → Sets n M s pass M′
-      → At s (2 ^ n + s) M′ G
+      → OnWalk n π ρ false s (2 ^ n + s) M′ G
   unfolding num weight loopTurns
   at-start s M G M′ l d e sets =
       let q = num-place n s l in
@@ -138,17 +116,17 @@ module _ (n : ℕ) (π ρ : ℕ → ℕ) (perm : Permutes (2 ^ suc n) π ρ) whe
         stands = ap (λ (x : ℕ). 2 ^ n + x) q;
       }
 
-  pub at-small : (s y : ℕ) (M G : ℕ → Mark) → At s y M G → y < 2 ^ suc n
-  at-small s y M G a = rw (a .stands) at (num-lt (suc n) (stand K m ok (place n s) (a .done)))
+  pub at-small : (s y : ℕ) (M G : ℕ → Mark) → OnWalk n π ρ false s y M G → y < 2 ^ suc n
+  at-small s y M G a = rw (a .stands) at (num-lt (suc n) (stand m (place n s) (a .done)))
 
   -- the last step, at bit y: its place p = ρ y takes the upper side
   pub at-last :
       (s y : ℕ) (M G G′ : ℕ → Mark)
-      → At s y M G
+      → OnWalk n π ρ false s y M G
       → Sets n G (ρ y % 2 ^ n) (not (leb (2 ^ n) (ρ y))) G′
-      → After s y M G′
+      → OnWalk n π ρ true s y M G′
   at-last s y M G G′ a sets =
-      let x = stand K m ok (place n s) (a .done) in
+      let x = stand m (place n s) (a .done) in
       let p : num (suc n) (m .from x) ≡ ρ y = num-from x ∙ ap ρ (a .stands) in
       let h : not (leb (2 ^ n) (ρ y)) ≡ not (m .from x .0) =
       ap not (sym (num-half n (m .from x) ∙ ap (leb (2 ^ n)) p)) in
@@ -165,19 +143,19 @@ module _ (n : ℕ) (π ρ : ℕ → ℕ) (perm : Permutes (2 ^ suc n) π ρ) whe
         stands = a .stands;
       }
 
-  module _ (s y : ℕ) (M G : ℕ → Mark) (a : After s y M G) where
+  module _ (s y : ℕ) (M G : ℕ → Mark) (a : OnWalk n π ρ true s y M G) where
     -- the bit x that takes the other place of that last switch
     abbrev next : ℕ
     next = π (other n (ρ y))
 
     abbrev here : Place (suc n)
-    here = stand K m ok (place n s) (a .done)
+    here = stand m (place n s) (a .done)
 
     abbrev meets : Place (suc n)
     meets = m .to (flip (m .from here))
 
     abbrev ahead : Place (suc n)
-    ahead = stand K m ok (place n s) (suc (a .done))
+    ahead = stand m (place n s) (suc (a .done))
 
     meets-is : num (suc n) meets ≡ next
     meets-is =
@@ -208,7 +186,7 @@ module _ (n : ℕ) (π ρ : ℕ → ℕ) (perm : Permutes (2 ^ suc n) π ρ) whe
     next-other ne e = ne (sym next-switch ∙ ap (num n) e ∙ num-place n s (a .start))
 
     -- the loop is closed where x stands at the start's switch
-    pub after-end : next % 2 ^ n ≡ s → Done (suc s) M G
+    pub after-end : next % 2 ^ n ≡ s → LoopsDone n π ρ (suc s) M G
     after-end e =
         record {
           settled = rw (num-place n s (a .start)) at (walk-end K m ok (a .walk) (next-start e));
@@ -224,7 +202,7 @@ module _ (n : ℕ) (π ρ : ℕ → ℕ) (perm : Permutes (2 ^ suc n) π ρ) whe
         (M′ : ℕ → Mark)
         → next % 2 ^ n ≢ s
         → Sets n M (next % 2 ^ n) (leb (2 ^ n) next) M′
-        → At s (other n next) M′ G
+        → OnWalk n π ρ false s (other n next) M′ G
     after-next M′ ne sets =
         record {
           start = a .start;

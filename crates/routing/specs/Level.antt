@@ -29,7 +29,7 @@ halfTo n π g h q = π (weight (xor (g q) h) n + q) % 2 ^ n
 abbrev pub halfFrom : ℕ → (ℕ → ℕ) → (ℕ → Bool) → Bool → ℕ → ℕ
 halfFrom n ρ f h x = ρ (weight (xor (f x) h) n + x) % 2 ^ n
 
--- M′ is M with switch s set to v
+-- the marks by switch number: M′ is M with switch s set to v
 pub record Sets (n : ℕ) (M : ℕ → Mark) (s : ℕ) (v : Bool) (M′ : ℕ → Mark) : Type 0 where
   pub here : M′ s ≡ set v
   pub elsewhere : (t : ℕ) → t < 2 ^ n → t ≢ s → M′ t ≡ M t

@@ -4,6 +4,7 @@ pub mod Marks
 pub mod Net
 pub mod Stages
 pub mod FirstControls
+pub mod Walk
 pub mod Level
 pub mod Alone
 pub mod Lists

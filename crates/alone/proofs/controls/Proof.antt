@@ -1,7 +1,6 @@
 -- `alone::controls` meets its contract. Assumes nothing.
-use Prim.Native.Nat.{_^_}
-use Rattle.routing.specs.Lists.{ListPermutes}
-use Rattle.alone.proofs.AgreeFits.{every-within, entries-within, answer-inverse, answer-butterfly}
+use mathlib.Core.Bool.{true, false}
+use Rattle.alone.proofs.AgreeFits.{lists-fit, answer-of}
 use borrow.Author.Needs.{needs}
 use Rattle.alone.proofs.controls.Statement.{statement}
 use Rattle.alone.proofs.controls.Tie as tie
@@ -16,18 +15,13 @@ agreed-requires : tie.Need-agreed-requires
 agreed-requires c κs =
     let b = c .before .before in
     let a = b .before .before .args in
-    let is : ListPermutes (2 ^ a .log) (a .entries .now) = search needs in (
-      search needs,
-      search needs,
-      entries-within (a .log) (search needs) (a .entries .now) (b .every-place .result) is (b .every-place .ensures),
-      every-within (a .log) (search needs) (a .entries .now) (b .every-place .result) is (b .every-place .ensures),
-    )
+    lists-fit (a .log) (search needs) (a .entries .now) (b .every-place .result) (search needs) (b .every-place .ensures) true
 
 returns : tie.Need-returns
 returns c =
     let b = c .before .before .before in
     let a = b .before .before .args in
-    answer-inverse (a .log) (search needs) (a .entries .now) (b .every-place .result) (search needs) (b .every-place .ensures)
+    answer-of (a .log) (search needs) (a .entries .now) (b .every-place .result) (search needs) (b .every-place .ensures) true
     (c .before .before .if1 .taken) (c .agreed .ensures)
 
 slice-aggregate-agreed-2 : tie.Need-slice-aggregate-agreed-2
@@ -37,18 +31,13 @@ agreed-requires-2 : tie.Need-agreed-requires-2
 agreed-requires-2 c κs =
     let b = c .before .before in
     let a = b .before .before .args in
-    let is : ListPermutes (2 ^ a .log) (a .entries .now) = search needs in (
-      search needs,
-      search needs,
-      every-within (a .log) (search needs) (a .entries .now) (b .every-place .result) is (b .every-place .ensures),
-      entries-within (a .log) (search needs) (a .entries .now) (b .every-place .result) is (b .every-place .ensures),
-    )
+    lists-fit (a .log) (search needs) (a .entries .now) (b .every-place .result) (search needs) (b .every-place .ensures) false
 
 returns-2 : tie.Need-returns-2
 returns-2 c =
     let b = c .before .before .before in
     let a = b .before .before .args in
-    answer-butterfly (a .log) (search needs) (a .entries .now) (b .every-place .result) (search needs) (b .every-place .ensures)
+    answer-of (a .log) (search needs) (a .entries .now) (b .every-place .result) (search needs) (b .every-place .ensures) false
     (c .before .before .if1 .left) (c .agreed2 .ensures)
 
 pub controls-spec : {M : Type 1} → statement M
