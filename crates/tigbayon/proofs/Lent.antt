@@ -2,7 +2,7 @@
 -- locals, arguments and exit, and takes all else from here.
 --     meets        a function's contract, from a walk of its MIR that may call another function
 --     asks         a call, and what its contract says of the answer
---     lent         the statements over a bank lent by `&mut`, from the bank's locals and the operands
+--     lent, shown      the statements over a bank lent by `&mut` and by `&`, from the bank's locals and the operands
 --     kept         what is had at exit, as `ends-at` asks it;        gone         a local is let go
 -- Assumes `Given`.
 use mathlib.Core.Path.{_≡_, refl, sym, subst}
@@ -15,7 +15,7 @@ use lib.Dec.{T}
 use mir.Syntax.{Sym, Ty, Tys, tyStruct, Step as Move, deref, field, place, Place, Opd as Operand, copy, rvOpd, Body as Code, seq, assign, call, Name, Fn}
 use mir.Val.{Val, vptr, vstruct, ofList, hasTy, WT}
 use base.Logic.{SProp, ent, sep, emp, via, comm∗, emp∗, fst∗, snd∗, exE, id⊢}
-use base.Fml.{Fml, GName, Lft, Share, fsep, feq, flft, fobs, fbor, fobor, fauth, fat, froom, fdies}
+use base.Fml.{Fml, GName, Lft, Share, fsep, feq, flft, fobs, fbor, fobor, fauth, fshr-bor, fat, froom, fdies}
 use base.Stored.{Gv}
 use prog.Memory.{fieldAt}
 use prog.Model.{Model}
@@ -33,9 +33,9 @@ use types.SemTy.{Body}
 use sound.WpLaws.{FmC, fmOf, WpFn-mono}
 use denote.RattleType.{RattleType, flat}
 use denote.Laws.{Is, Are, Ises, Spells, Tellss, valss, shows}
-use denote.Memory.{mem, cellAt}
+use denote.Memory.{mem, cellAt, partAt}
 use denote.Signature.{typeAt, typesAt}
-use denote.Steps.{opens, closes, owned, peeks, heard, only}
+use denote.Steps.{opens, closes, looks, shuts, owned, peeks, heard, only}
 use denote.Struct.Steps.{spelt}
 use denote.Struct.Laws as LL
 use denote.Triple.Statement.{Contract, Triple}
@@ -95,7 +95,7 @@ alone 𝓤 X = via 𝓤 (sep 𝓤 (emp 𝓤) X) (emp∗ 𝓤 X) (comm∗ 𝓤 (e
 
 -- the borrow opened with the bank's machine value written out, and closed at another bank
 module _ {M : Type 1} {𝓤 : URA M} {H : Heap 𝓤} {A : Atoms 𝓤} {K : Type 0} {W : Given 𝓤 H A} {Γ : List (Item 𝓤)} {G : Goal 𝓤 H} where
-  pub bank-opens : K → Soaks G → {κ : Lft} {q : Share} (h : Bank) {γ : GName} (b o : ℕ)
+  bank-opens : K → Soaks G → {κ : Lft} {q : Share} (h : Bank) {γ : GName} (b o : ℕ)
       → (Is T.the-row h (bankVal h ∷ [])
       → Seq K W (‵ (T.the-row .own h (bankVal h ∷ [])) ∷ ‵ (cellAt fullShare (T.the-row .mir) (bankVal h ∷ []) b o) ∷ ‵ (fobor κ q (Body (mem T.the-row) b o γ)) ∷ ‵ (fobs γ (T.the-row .coded .code h)) ∷ ‵ (fauth γ (T.the-row .coded .code h)) ∷ Γ) G)
       → Seq K W (‵ (fobs γ (T.the-row .coded .code h)) ∷ ‵ (fbor κ (Body (mem T.the-row) b o γ)) ∷ ‵ (flft κ q) ∷ Γ) G
@@ -103,7 +103,7 @@ module _ {M : Type 1} {𝓤 : URA M} {H : Heap 𝓤} {A : Atoms 𝓤} {K : Type 
       opens t z T.the-row {h = h} b o (λ vs. spelt t T.the-row (Is T.the-row) (shows 𝓤 H A T.the-row) (LL.vals T.the-type T′.the-laws) (LL.tells T.the-type T′.the-laws) fullShare h vs b o $
       move t (1 ∷ []) $ peeks t T.the-row (Is T.the-row) (shows 𝓤 H A T.the-row) h (bankVal h ∷ []) k)
 
-  pub bank-closes : K → Soaks G → {κ : Lft} {q : Share} {u v : Gv} (h : Bank) → Is T.the-row h (bankVal h ∷ []) → {γ : GName} (b o : ℕ)
+  bank-closes : K → Soaks G → {κ : Lft} {q : Share} {u v : Gv} (h : Bank) → Is T.the-row h (bankVal h ∷ []) → {γ : GName} (b o : ℕ)
       → Step K W (‵ (fobs γ (T.the-row .coded .code h)) ∷ ‵ (fbor κ (Body (mem T.the-row) b o γ)) ∷ ‵ (flft κ q) ∷ Γ) G
       (‵ (cellAt fullShare (T.the-row .mir) (bankVal h ∷ []) b o) ∷ ‵ (fobor κ q (Body (mem T.the-row) b o γ)) ∷ ‵ (fobs γ u) ∷ ‵ (fauth γ v) ∷ Γ) G
   bank-closes t z h is b o =
@@ -120,7 +120,7 @@ module _ {M : Type 1} {𝓤 : URA M} {H : Heap 𝓤} {A : Atoms 𝓤} {K : Type 
 
   module _ {C : Calls 𝓤 H} {Λ : Loops 𝓤 H} {Q : Post 𝓤 H} {f : Name} {xs : List Operand} {d : Place} {rest : Code} where
     -- φ: what the callee's `ensures` says of its answer
-    pub asks : K → FmC 𝓤 H (W .laws) C → (S : Ended) (c : Clauses 𝓤 S) → Triple 𝓤 (C f) (contractOf 𝓤 H A S c) → (y : contractOf 𝓤 H A S c .Ghost) (φ : Res (S .signature) (y .0 .0) → Type 0)
+    asks : K → FmC 𝓤 H (W .laws) C → (S : Ended) (c : Clauses 𝓤 S) → Triple 𝓤 (C f) (contractOf 𝓤 H A S c) → (y : contractOf 𝓤 H A S c .Ghost) (φ : Res (S .signature) (y .0 .0) → Type 0)
         → ((r : Res (S .signature) (y .0 .0)) (ws : Lasts S (y .0 .0) (y .0 .3)) → ent 𝓤 (c (y .0 .0) (y .0 .3) .ensures (y .1) r (atExit S (y .0 .0) (y .0 .3) ws)) (fact 𝓤 (φ r)))
         → Opds K W (raw (contractOf 𝓤 H A S c .pre y) ∷ Γ) E xs (contractOf 𝓤 H A S c .args y)
         → ((v : Val) (r : Res (S .signature) (y .0 .0)) → φ r → Is (typeAt (S .signature .result) (y .0 .0)) r (v ∷ [])
@@ -172,6 +172,34 @@ module _ {M : Type 1} {𝓤 : URA M} {H : Heap 𝓤} {A : Atoms 𝓤} {K : Type 
       assigns t (of-opd t (load t (found t eⱼ (fld t f₁ (stop t))) (look-in t 8 (sub t 1 f₁ (whole t))))) (found t e₁ (hop t (look t 9 refl) (stop t))) (store-raw t 3 refl (LL.lawful T.the-type T′.the-laws 𝓤 H A W .typed (answer .bank r) _ (answer .bank-is r v is′) .0)) $
       assigns t (of-opd t (load t (found t eⱼ (fld t f₀ (stop t))) (look-in t 8 (sub t 0 f₀ (whole t))))) (found t e₀ (stop t)) (init t 10 refl (answer .val-typed r v is′)) $
       drop t $ move t (2 ∷ 3 ∷ 4 ∷ 5 ∷ []) $ bank-closes t tt (answer .bank r) (answer .bank-is r v is′) b o $ k v r e is′))
+
+  -- the same over a bank lent by `&`: it is looked into, copied out and shut, and the callee's answer is the result
+  pub shown : K → FmC 𝓤 H (W .laws) C → {κ : Lft} {q : Share} (h : Bank) (b o : ℕ) (P : Fml) → ent 𝓤 (sem 𝓤 H A P) (sep 𝓤 (sem 𝓤 H A P) (sem 𝓤 H A P))
+      → (S : Ended) (c : Clauses 𝓤 S) {f : Name} → Triple 𝓤 (C f) (contractOf 𝓤 H A S c) → (y : contractOf 𝓤 H A S c .Ghost) (φ : Res (S .signature) (y .0 .0) → Type 0)
+      → ((r : Res (S .signature) (y .0 .0)) (ws : Lasts S (y .0 .0) (y .0 .3)) → ent 𝓤 (c (y .0 .0) (y .0 .3) .ensures (y .1) r (atExit S (y .0 .0) (y .0 .3) ws)) (fact 𝓤 (φ r)))
+      → ent 𝓤 (sep 𝓤 (alive 𝓤 H A (S .signature) (y .0 .0) (y .0 .1)) (sep 𝓤 (sem 𝓤 H A (T.the-row .own h (bankVal h ∷ []))) (sem 𝓤 H A P))) (contractOf 𝓤 H A S c .pre y)
+      → {i : ℕ} {ρ π : Ty} {l₀ l₁ lᵢ : ℕ} → spotOf 𝓤 H E 0 ≡ (ρ, l₀, 0) → spotOf 𝓤 H E 1 ≡ (π, l₁, 0) → spotOf 𝓤 H E i ≡ (T′.mir, lᵢ, 0)
+      → ((r : Res (S .signature) (y .0 .0)) (v : Val) → Is (typeAt (S .signature .result) (y .0 .0)) r (v ∷ []) → T (hasTy ρ v) × WT v) → {xs : List Operand} {rest : Code}
+      → Opds K W (raw (contractOf 𝓤 H A S c .pre y) ∷ ‵ P ∷ ‵ (flft κ q) ∷ ‵ (fshr-bor κ (λ s. partAt T.the-row s h b o))
+      ∷ ‵ (fat fullShare T′.mir lᵢ 0 (bankVal h)) ∷ ‵ (fat fullShare π l₁ 0 (vptr b o)) ∷ ‵ (froom ρ l₀ 0) ∷ Δ) E xs (contractOf 𝓤 H A S c .args y)
+      → ((v : Val) (r : Res (S .signature) (y .0 .0)) → φ r
+      → Seq K W (‵ (fshr-bor κ (λ s. partAt T.the-row s h b o)) ∷ ‵ (flft κ q) ∷ raw (alive 𝓤 H A (S .signature) (y .0 .0) (y .0 .1)) ∷ ‵ P ∷ ‵ (typeAt (S .signature .result) (y .0 .0) .own r (v ∷ []))
+      ∷ ‵ (fat fullShare T′.mir lᵢ 0 (bankVal h)) ∷ ‵ (fat fullShare π l₁ 0 (vptr b o)) ∷ ‵ (fat fullShare ρ l₀ 0 v) ∷ Δ) (runs C Λ E rest Q))
+      → Seq K W (‵ (fshr-bor κ (λ s. partAt T.the-row s h b o)) ∷ ‵ (flft κ q) ∷ raw (alive 𝓤 H A (S .signature) (y .0 .0) (y .0 .1)) ∷ ‵ P
+      ∷ ‵ (froom T′.mir lᵢ 0) ∷ ‵ (fat fullShare π l₁ 0 (vptr b o)) ∷ ‵ (froom ρ l₀ 0) ∷ Δ)
+      (runs C Λ E (seq (assign (place i []) (rvOpd (copy (place 1 (deref T′.mir ∷ []))))) (seq (call f xs (place 0 [])) rest)) Q)
+  shown t fm h b o P twice S c known y φ tell pays e₀ e₁ eᵢ typed os k =
+      looks t tt T.the-row (Is T.the-row) (shows 𝓤 H A T.the-row) (LL.vals T.the-type T′.the-laws) (LL.tells T.the-type T′.the-laws) (LL.copy T.the-type T′.the-copy 𝓤 H A W) h b o (λ s vs.
+      spelt t T.the-row (Is T.the-row) (shows 𝓤 H A T.the-row) (LL.vals T.the-type T′.the-laws) (LL.tells T.the-type T′.the-laws) s h vs b o $
+      -- [a share of the bank's cell; what a Bank owns; what shuts it; the fractured borrow; the tokens; P; _i at 6; _1; _0; ..]
+      move t (1 ∷ []) $ peeks t T.the-row (Is T.the-row) (shows 𝓤 H A T.the-row) h (bankVal h ∷ []) (λ is.
+      assigns t (of-opd t (load t (found t e₁ (hop t (look t 7 refl) (stop t))) (look-raw t 1 refl))) (found t eᵢ (stop t)) (init t 6 refl (LL.lawful T.the-type T′.the-laws 𝓤 H A W .typed h _ is .0)) $
+      move t (1 ∷ 0 ∷ []) $ shuts t tt T.the-row s h (bankVal h ∷ []) b o $ owned t T.the-row (Is T.the-row) (LL.makes T.the-type T′.the-plain 𝓤 H A) h _ is $
+      -- [what a Bank owns; the token; the fractured borrow; the tokens; P; _i at 5; _1; _0; ..]
+      move t (4 ∷ []) $ use1 W (‵ P ⊛ ‵ P) twice $ split t $ move t (5 ∷ 2 ∷ 0 ∷ []) $ use3 W (raw (contractOf 𝓤 H A S c .pre y)) pays $
+      asks t fm S c known y φ tell os (λ v r e is′.
+      -- [what the answer owns; the tokens; P; the token; the fractured borrow; _i at 5; _1; _0; ..]
+      land t (found t e₀ (stop t)) (init t 7 refl (typed r v is′)) $ move t (4 ∷ 3 ∷ 1 ∷ 2 ∷ 0 ∷ []) $ k v r e)))
 
 -- what is had at exit: the tokens, the reference at its last bank and what the other arguments own, and the answer
 pub kept : {M : Type 1} {𝓤 : URA M} {H : Heap 𝓤} {A : Atoms 𝓤} (W : Given 𝓤 H A) {κ : Lft} {q : Share} {γ : GName} (k : Bank) (b o : ℕ) (Z : SProp 𝓤) (P R : Fml) → ent 𝓤 (emp 𝓤) (sem 𝓤 H A R)

@@ -1,5 +1,4 @@
--- `tigbayon::tb_read` meets its contract: a walk of its MIR, by hand (`Lent`). The borrow is looked into, the bank is copied out and passed to `read`, and the borrow is shut again.
--- Assumes nothing.
+-- `tigbayon::tb_read` meets its contract: a walk of its MIR, by hand (`Lent`). Assumes nothing.
 use mathlib.Core.Path.{_≡_, refl}
 use Prim.Native.Nat.{ℕ, _<_, _^_}
 use mathlib.Core.List.{[], _∷_, List}
@@ -14,28 +13,24 @@ use prog.Wp.{Heap, Calls, Loops, WpFn}
 use ghost.Atoms.{Atoms}
 use contract.Monad.{Fun}
 use contract.Running.{givenOf}
-use types.Kit.{Given, ‵, raw, _⊛_, _$_, _∵_, !, qed, move, drop, split, join, fsplit, fsplit3, fjoin, fjoin3, feqI, suffices, frame, done, use1, use3}
-use types.Run.{look, look-raw, init, stop, hop, from, load, of-opd, and-then, no-more, land, assigns, returns, enter, alloc1, alloc0, params1, pass1, pass0, free0}
+use types.Kit.{Given, ‵, raw, _⊛_, _$_, _∵_, !, qed, move, drop, split, join, fsplit, fsplit3, fjoin, fjoin3, feqI, suffices, frame, done}
+use types.Run.{look, init, stop, from, load, and-then, no-more, returns, enter, alloc1, alloc0, params1, pass1, pass0, free0}
 use sound.WpLaws.{FmC}
 use denote.RattleType.{owns}
-use denote.Laws.{Is, shows}
 use denote.Plain.{uint-vals, uint-tells, uint-copy}
 use denote.Builtin.{u8}
 use denote.Ref.{RefT, ShrRef, ptr-vals, shr-tells}
 use denote.Signature.{plain}
-use denote.Steps.{looks, shuts, owned, peeks}
-use denote.Struct.Steps.{spelt}
 use denote.Struct.Laws as LL
 use denote.Struct.Struct.{twices}
-use denote.Triple.Statement.{Contract, Triple}
+use denote.Triple.Statement.{Triple}
 use denote.Triple.Entry.{onEntry}
 use denote.Triple.Walked.{says, Stays, stay-none-ref, stay-none, walkOf, goes-none, goes-none-ref, ends-at}
 use denote.Exit.{yes}
 use Rattle.unit.specs.declared.Bank.{Bank}
 use Rattle.unit.specs.Calls.{readOf}
-use Rattle.tigbayon.proofs.Lent.{bankVal, contractOf, meets, alone, gone, asks}
+use Rattle.tigbayon.proofs.Lent.{bankVal, contractOf, meets, alone, gone, shown}
 use Rattle.unit.proofs.Bank as T
-use Rattle.unit.proofs.Bank.Laws as T′
 use Rattle.unit.proofs.Register as R
 use Rattle.unit.proofs.Register.Laws as R′
 use Rattle.unit.proofs.read as core
@@ -61,38 +56,24 @@ module _ {M : Type 1} (𝓤 : URA M) (H : Heap 𝓤) (A : Atoms 𝓤) (W : Given
   abbrev P : Fml
   P = owns (u8 ∷ []) (x .1) (at .1)
 
-  abbrev Core : Contract 𝓤
-  Core = contractOf 𝓤 H A core.ended (core.clauses 𝓤 H A at-mem run)
-
-  abbrev to-core : Core .Ghost
-  to-core = ((tt, tt, tt, (h, x .1), (bankVal h ∷ [], at .1)), tt)
-
-  walk : (C : Calls 𝓤 H) (Λ : Loops 𝓤 H) → FmC 𝓤 H (W .laws) C → Triple 𝓤 (C #unit·read) Core
+  walk : (C : Calls 𝓤 H) (Λ : Loops 𝓤 H) → FmC 𝓤 H (W .laws) C → Triple 𝓤 (C #unit·read) (contractOf 𝓤 H A core.ended (core.clauses 𝓤 H A at-mem run))
       → ent 𝓤 (onEntry 𝓤 H A self.signature (κ, tt) (q, tt) x at)
       (WpFn 𝓤 H C Λ code.function (vptr b o ∷ vint w8 n ∷ []) (walkOf 𝓤 H A self.ended stayed (self.clauses 𝓤 H A at-mem run) .post (((κ, tt), (q, tt), tt, x, at), tt)))
   walk C Λ fm known =
       qed W ((‵ (flft κ q) ⊛ raw (emp 𝓤)) ∷ ‵ (owns (ShrRef (named 0) κ T.the-row ∷ u8 ∷ []) x at) ∷ []) ∵ split ! $ move ! (2 ∷ []) $ fsplit ! $ fsplit3 ! $ drop ! $
       -- [res; the fractured borrow; P; the token; no others]
-      move ! (1 ∷ 3 ∷ 0 ∷ 4 ∷ []) $ enter ! C Λ code.function (vptr b o ∷ vint w8 n ∷ []) _ $
+      move ! (1 ∷ 3 ∷ 4 ∷ 2 ∷ []) $ enter ! C Λ code.function (vptr b o ∷ vint w8 n ∷ []) _ $
       alloc1 ! (λ l₀. alloc1 ! (λ l₁. alloc1 ! (λ l₂. alloc1 ! (λ l₃. alloc0 ! $ params1 ! $
       pass1 ! (init ! 4 refl (tt, tt)) $ pass1 ! (init ! 2 refl (tt, record { fits = fn })) $ pass0 ! $
-      move ! (8 ∷ 9 ∷ []) $ looks ! tt T.the-row (Is T.the-row) (shows 𝓤 H A T.the-row) (LL.vals T.the-type T′.the-laws) (LL.tells T.the-type T′.the-laws) (LL.copy T.the-type T′.the-copy 𝓤 H A W) h b o (λ q′ vs.
-      spelt ! T.the-row (Is T.the-row) (shows 𝓤 H A T.the-row) (LL.vals T.the-type T′.the-laws) (LL.tells T.the-type T′.the-laws) q′ h vs b o $
-      -- [a share of the bank's cell; what a Bank owns; what shuts it; the fractured borrow; _3 at 4; _2 at 6; _1 at 8; _0 at 10; res at 12; no tokens; P]
-      move ! (1 ∷ []) $ peeks ! T.the-row (Is T.the-row) (shows 𝓤 H A T.the-row) h (bankVal h ∷ []) (λ is.
-      assigns ! (of-opd ! (load ! (from ! (hop ! (look ! 8 refl) (stop !))) (look-raw ! 1 refl))) (from ! (stop !)) (init ! 4 refl (LL.lawful T.the-type T′.the-laws 𝓤 H A W .typed h _ is .0)) $
-      move ! (1 ∷ 0 ∷ []) $ shuts ! tt T.the-row q′ h (bankVal h ∷ []) b o $
-      owned ! T.the-row (Is T.the-row) (LL.makes T.the-type T′.the-plain 𝓤 H A) h _ is $
-      -- [what a Bank owns; the token; the fractured borrow; _3 at 3; _2 at 5; _1 at 7; _0 at 9; res at 11; no tokens; P]
-      move ! (13 ∷ []) $ use1 W (‵ P ⊛ ‵ P) (twices 𝓤 H A W (u8 ∷ []) (uint-copy 𝓤 H A W w8, tt) (x .1) (at .1)) $ split ! $ move ! (14 ∷ 2 ∷ 0 ∷ []) $ use3 W (raw (Core .pre to-core)) (alone 𝓤 _) $
-      -- [what `read` asks; P; the token; the fractured borrow; _3 at 4; _2 at 6; _1 at 8; _0 at 10; res at 12]
-      asks ! fm core.ended (core.clauses 𝓤 H A at-mem run) known to-core (λ r. r ≡ readOf h n) (λ r ws. id⊢ 𝓤 _)
-      (and-then ! (load ! (from ! (stop !)) (look ! 4 refl)) (and-then ! (load ! (from ! (stop !)) (look ! 6 refl)) (no-more !))) (λ v r e is′.
-      -- [what the answer owns; no tokens; P; the token; the fractured borrow; _3 at 5; _2 at 7; _1 at 9; _0 at 11; res at 13]
-      land ! (from ! (stop !)) (init ! 11 refl (LL.lawful R.the-type R′.the-laws 𝓤 H A W .typed r _ is′ .0)) $
-      returns ! (look ! 11 refl) $ move ! (11 ∷ 12 ∷ 9 ∷ 10 ∷ 7 ∷ 8 ∷ 5 ∷ 6 ∷ []) $ gone ! $ gone ! $ gone ! $ gone ! $ free0 ! $
+      -- [_3; …; _2 at 2; _1 at 4; _0 at 6; the fractured borrow at 8; the token; no others; P; res]
+      move ! (8 ∷ 9 ∷ 10 ∷ 11 ∷ 0 ∷ 4 ∷ 6 ∷ []) $
+      shown ! fm h b o P (twices 𝓤 H A W (u8 ∷ []) (uint-copy 𝓤 H A W w8, tt) (x .1) (at .1)) core.ended (core.clauses 𝓤 H A at-mem run) known
+      ((tt, tt, tt, (h, x .1), (bankVal h ∷ [], at .1)), tt) (λ r. r ≡ readOf h n) (λ r ws. id⊢ 𝓤 _) (alone 𝓤 _) refl refl refl (λ r v is. LL.lawful R.the-type R′.the-laws 𝓤 H A W .typed r _ is .0)
+      (and-then ! (load ! (from ! (stop !)) (look ! 4 refl)) (and-then ! (load ! (from ! (stop !)) (look ! 8 refl)) (no-more !))) (λ v r e.
+      -- [the fractured borrow; the token; no others; P; what the answer owns; _3 at 5; _1; _0; …; _2 at 9; …; res at 13]
+      returns ! (look ! 7 refl) $ move ! (7 ∷ 12 ∷ 6 ∷ 11 ∷ 9 ∷ 10 ∷ 5 ∷ 8 ∷ []) $ gone ! $ gone ! $ gone ! $ gone ! $ free0 ! $
       suffices ! _ (ends-at 𝓤 H A self.ended stayed (self.clauses 𝓤 H A at-mem run) W (((κ, tt), (q, tt), tt, x, at), tt) v r (tt, (tt, tt)) (tt, (tt, tt))) $ says ! e $
-      move ! (3 ∷ 1 ∷ []) $ join ! $ frame ! $ move ! (3 ∷ 2 ∷ 1 ∷ []) $ feqI ! (List Val) (vptr b o ∷ []) (vptr b o ∷ []) refl $ fjoin3 ! $ fjoin ! $ done !)))))))
+      move ! (1 ∷ 2 ∷ []) $ join ! $ frame ! $ move ! (3 ∷ 0 ∷ []) $ feqI ! (List Val) (vptr b o ∷ []) (vptr b o ∷ []) refl $ fjoin3 ! $ fjoin ! $ done !)))))
 
 pub tb-read-spec : {M : Type 1} → stated.statement M
 unfolding code.routine

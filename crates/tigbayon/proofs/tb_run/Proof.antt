@@ -31,7 +31,6 @@ use denote.Triple.Entry.{onEntry}
 use denote.Triple.Walked.{says, Stays, stay-ref, stay-none-slice, stay-none, walkOf, goes-none, goes-none-slice, goes-ref, ends-at}
 use denote.Exit.{yes}
 use Rattle.unit.specs.declared.Bank.{Bank}
-use Rattle.unit.specs.declared.Ran.{Ran}
 use Rattle.unit.specs.Run.{runOf}
 use Rattle.tigbayon.proofs.Lent.{bankVal, contractOf, meets, alone, gone, Beside, lent, kept}
 use Rattle.unit.proofs.Bank as T

@@ -28,7 +28,6 @@ use denote.Triple.Entry.{onEntry}
 use denote.Triple.Walked.{says, Stays, stay-ref, stay-none, walkOf, goes-none, goes-ref, ends-at}
 use denote.Exit.{yes}
 use Rattle.unit.specs.declared.Bank.{Bank}
-use Rattle.unit.specs.declared.Written.{Written}
 use Rattle.unit.specs.Calls.{writeOf}
 use Rattle.tigbayon.proofs.Lent.{bankVal, contractOf, meets, alone, gone, Beside, lent, kept}
 use Rattle.unit.proofs.Bank as T
