@@ -20,7 +20,7 @@ use Rattle.routing.specs.Alone.{forced, butterflyControls, inverseControls, eve
 use Rattle.routing.specs.Lists.{find, controlsOf, wordOf, controlIn, butterflyWords, inverseWords, wordsOf, firstWords, butterflyFits, inverseFits, butterflyAlone, inverseAlone}
 use Rattle.permute.specs.Permutation.{absent, namesOnce}
 use Rattle.permute.specs.Calls.{routeRefusal, routeAnswer, oneRefusal, oneAnswer}
-use Rattle.unit.specs.Operation.{cyclesOf, isKind, usedOf, stepOf, loadOf}
+use Rattle.unit.specs.Operation.{cyclesOf, loadOf, effectOf}
 use Rattle.unit.specs.Run.{operationsOf, stepsOf, sumOf, ranOf, anyKind, anyRegister, runRefusal, runOf}
 use Rattle.examples.specs.Rows.{Row, rowOutcome, rows, Hold}
 
@@ -61,7 +61,7 @@ unfolding allHold same rowOutcome answerOf refusalOf gatherOf scatterOf groupOf 
     weight num place at tab flip side loop.sent loop.loopTurn least firstStage lastStage between
     forced butterflyControls inverseControls everyBelow butterflyTest inverseTest
     placed.switchAt placed.partnerAt placed.through placed.butterfly placed.inverse
-    runOf runRefusal operationsOf stepsOf sumOf ranOf anyKind anyRegister cyclesOf isKind usedOf stepOf loadOf inverseOf rising
+    runOf runRefusal operationsOf stepsOf sumOf ranOf anyKind anyRegister cyclesOf loadOf effectOf inverseOf rising
 test = tt
 
 -- Every marked row: its call has its outcome.

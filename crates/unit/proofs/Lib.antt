@@ -1,6 +1,7 @@
 pub mod Held
 pub mod Width
-pub mod Asked
+pub mod Tables
+pub mod LowestRefusals
 pub mod OperationLists
 pub mod Runs
 pub mod Theorems

@@ -1,21 +1,17 @@
 -- A run's list: its bytes by fours, and its lowest refusal as one goes through it. Assumes nothing.
-use mathlib.Core.Path.{_≡_, refl, sym, _∙_, ap, ap₂}
+use mathlib.Core.Path.{_≡_, refl, sym, _∙_, ap₂}
 use mathlib.Core.Bool.{Bool, true, false, not, cond, _||_, or-assoc}
 use mathlib.Core.List.{List, [], _∷_}
 use Prim.Native.Nat.{ℕ, suc, _+_, _%_, _<_, _≤_}
 use native.Mathlib.Omega.{arith}
 use lib.Dec.{eqb, leb}
-use lib.ListN.{length, getD, drop, drop-of-length-le}
+use lib.ListN.{length, drop, drop-of-length-le}
 use lib.Seq.{drop-cons}
-use borrow.Author.Tests.{eqb-true, leb-true, eq-eqb, le-leb}
-use Rattle.bits.specs.Refusal.{lowest, IsLowest}
-use Rattle.bits.proofs.Refusals.{lowest-law}
+use borrow.Author.Tests.{eqb-true, leb-true, not-false}
+use Rattle.bits.specs.Refusal.{lowest}
+use Rattle.bits.proofs.Refusals.{NoneApplies, none-applies, neither}
 use Rattle.unit.specs.Operation.{isKind, usedOf, areRegisters, operationRefusal}
-use Rattle.unit.specs.Run.{Operation, operationsOf, anyKind, anyRegister, lowerOf, operationsRefusal, runConditions, runRefusal}
-
--- the operation at byte i
-abbrev pub operationAt : List ℕ → ℕ → Operation
-operationAt bytes i = (getD bytes i 0, getD bytes (i + 1) 0, getD bytes (i + 2) 0, getD bytes (i + 3) 0)
+use Rattle.unit.specs.Run.{Operation, operationAt, ownRefusal, operationsOf, anyKind, anyRegister, lowerOf, operationsRefusal, runConditions, runRefusal}
 
 module _ (bytes : List ℕ) (i : ℕ) where
   pub operations-next : i + 3 < length bytes → operationsOf (drop i bytes) ≡ operationAt bytes i ∷ operationsOf (drop (i + 4) bytes)
@@ -66,7 +62,7 @@ pub record Sofar (os : List Operation) (r : ℕ) (rest : List Operation) : Type 
 pub sofar-none : {os : List Operation} → Sofar os 0 os
 sofar-none = record { kind = false; register = false; value = refl; kinds = refl; registers = refl }
 
-pub sofar-next : {os rest : List Operation} {o : Operation} {r own s : ℕ} → Sofar os r (o ∷ rest) → own ≡ operationRefusal (o .0) (o .1) (o .2) (o .3)
+pub sofar-next : {os rest : List Operation} {o : Operation} {r own s : ℕ} → Sofar os r (o ∷ rest) → own ≡ ownRefusal o
     → s ≡ lowerOf r own → Sofar os s rest
 unfolding anyKind anyRegister operationRefusal
 sofar-next {os} {rest} {o} {r} {own} {s} h e f =
@@ -85,43 +81,23 @@ unfolding anyKind anyRegister operationsRefusal
 sofar-all h =
     h .value ∙ ap₂ found (sym (or-false (h .kind)) ∙ h .kinds) (sym (or-false (h .register)) ∙ h .registers)
 
--- the refusal of a run, by the tests of its length
-abbrev byLength : Bool → Bool → ℕ → ℕ
-byLength a b r = cond (not a || not b) 4 r
-
+-- the refusal of a run, from the outcomes of the tests of its length
 pub run-refusal-by : (bytes : List ℕ) {a b : Bool} {r : ℕ} → eqb (length bytes % 4) 0 ≡ a → leb (length bytes) 4096 ≡ b
-    → operationsRefusal (operationsOf bytes) ≡ r → runRefusal bytes ≡ byLength a b r
+    → operationsRefusal (operationsOf bytes) ≡ r → runRefusal bytes ≡ cond (not a || not b) 4 r
 unfolding runRefusal operationsRefusal
-run-refusal-by bytes {a} {b} {r} p q e =
-    ap (λ (t : Bool). byLength t (leb (length bytes) 4096) (operationsRefusal (operationsOf bytes))) p
-    ∙ ap (λ (t : Bool). byLength a t (operationsRefusal (operationsOf bytes))) q
-    ∙ ap (byLength a b) e
+run-refusal-by bytes p q e = λ i. cond (not (p i) || not (q i)) 4 (e i)
 
--- a run that is carried out is within the limits of length
-pub run-within : (bytes : List ℕ) → runRefusal bytes ≡ 0 → (length bytes % 4 ≡ 0) × (length bytes ≤ 4096)
-run-within bytes e =
-    by-tests (eqb (length bytes % 4) 0) (leb (length bytes) 4096) refl refl (sym (run-refusal-by bytes refl refl refl) ∙ e)
-  where
-    by-tests : (a b : Bool) → eqb (length bytes % 4) 0 ≡ a → leb (length bytes) 4096 ≡ b
-        → byLength a b (operationsRefusal (operationsOf bytes)) ≡ 0 → (length bytes % 4 ≡ 0) × (length bytes ≤ 4096)
-    by-tests true true p q z = (eqb-true (length bytes % 4) 0 p, leb-true (length bytes) 4096 q)
-    by-tests true false p q z = absurd (omega arith)
-    by-tests false b p q z = absurd (omega arith)
+module _ (bytes : List ℕ) (e : runRefusal bytes ≡ 0) where
+  none : NoneApplies (runConditions bytes)
+  unfolding runRefusal
+  none = none-applies (runConditions bytes) (omega arith) e
 
--- and every operation of its list is accepted
-pub run-accepts : (bytes : List ℕ) → runRefusal bytes ≡ 0 → (anyKind (operationsOf bytes) ≡ false) × (anyRegister (operationsOf bytes) ≡ false)
-unfolding operationsRefusal
-run-accepts bytes e =
-    let w = run-within bytes e in
-    let l = run-refusal-by bytes (eq-eqb (length bytes % 4) 0 (w .0)) (le-leb (length bytes) 4096 (w .1)) refl in
-    by-tests (anyKind (operationsOf bytes)) (anyRegister (operationsOf bytes)) (sym l ∙ e)
-  where
-    by-tests : (p q : Bool) → found p q ≡ 0 → (p ≡ false) × (q ≡ false)
-    by-tests true q z = absurd (omega arith)
-    by-tests false true z = absurd (omega arith)
-    by-tests false false z = (refl, refl)
+  -- a run that is carried out is within the limits of length
+  pub run-within : (length bytes % 4 ≡ 0) × (length bytes ≤ 4096)
+  run-within =
+      let o = neither (not (eqb (length bytes % 4) 0)) (not (leb (length bytes) 4096)) (none .0) in
+      (eqb-true (length bytes % 4) 0 (not-false _ (o .0)), leb-true (length bytes) 4096 (not-false _ (o .1)))
 
--- demand 1, of a run
-pub run-refusal-lowest : (bytes : List ℕ) → IsLowest (runConditions bytes) (runRefusal bytes)
-unfolding runRefusal
-run-refusal-lowest bytes = lowest-law (runConditions bytes) (omega arith)
+  -- and every operation of its list is accepted
+  pub run-accepts : (anyKind (operationsOf bytes) ≡ false) × (anyRegister (operationsOf bytes) ≡ false)
+  run-accepts = (none .1 .0, none .1 .1 .0)

@@ -7,8 +7,8 @@ use native.Mathlib.Omega.{arith}
 use lib.ListN.{length, take}
 use borrow.Author.Tests.{le-leb, lt-leb, lt-ltb, le-ltb}
 use Rattle.unit.specs.declared.Bank.{Bank}
-use Rattle.unit.specs.Operation.{cyclesOf, stepOf}
-use Rattle.unit.specs.Run.{Operation, stepsOf, sumOf, ranOf, endedOf, outcomeOf}
+use Rattle.unit.specs.Operation.{cyclesOf}
+use Rattle.unit.specs.Run.{Operation, stepBy, stepsOf, sumOf, ranOf, endedOf, outcomeOf}
 
 module _ (left : ℕ) (o : Operation) (os : List Operation) where
   pub ran-fits : cyclesOf (o .0) ≤ left → ranOf left (o ∷ os) ≡ suc (ranOf (left - cyclesOf (o .0)) os)
@@ -35,15 +35,15 @@ ended p q r s = rw (p, q, r, s)
 
 module _ {k : Bank} {os : List Operation} {budget : ℕ} {j : Bank} {left n : ℕ} where
   pub going-next : {o : Operation} {rest : List Operation} → Going k os budget j left n (o ∷ rest) → {c : ℕ} → c ≡ cyclesOf (o .0) → c ≤ left
-      → {i : Bank} → i ≡ stepOf j (o .0) (o .1) (o .2) (o .3) → Going k os budget i (left - c) (n + 1) rest
+      → {i : Bank} → i ≡ stepBy j o → Going k os budget i (left - c) (n + 1) rest
   unfolding sumOf stepsOf
   going-next {o} {rest} h {c} e l {i} f =
       let m = ranOf (left - cyclesOf (o .0)) rest in
       let r : ranOf left (o ∷ rest) ≡ suc m = ran-fits left o rest (omega arith) in
       let s : (budget - left) + (cyclesOf (o .0) + sumOf (take m rest)) ≡ sumOf (take (ranOf budget os) os) = rw r at (h .sums) in
-      let b : stepsOf (stepOf j (o .0) (o .1) (o .2) (o .3)) (take m rest) ≡ stepsOf k (take (ranOf budget os) os) = rw r at (h .banks) in
+      let b : stepsOf (stepBy j o) (take m rest) ≡ stepsOf k (take (ranOf budget os) os) = rw r at (h .banks) in
       let w = h .within in
-      let g : Going k os budget (stepOf j (o .0) (o .1) (o .2) (o .3)) (left - cyclesOf (o .0)) (n + 1) rest =
+      let g : Going k os budget (stepBy j o) (left - cyclesOf (o .0)) (n + 1) rest =
       record { within = omega arith; counts = omega (arith, h .counts); sums = omega (arith, s); banks = b; lengths = omega (arith, h .lengths) }
       in
       rw (e, f) g

@@ -1,6 +1,6 @@
 -- The register unit's theorems, over its definitions. Assumes nothing.
 use mathlib.Core.Path.{_≡_, refl, sym, _∙_, ap}
-use mathlib.Core.Bool.{Bool, true, false, not, cond, _||_, false≢true}
+use mathlib.Core.Bool.{Bool, true, false, not, cond}
 use mathlib.Core.List.{List, [], _∷_}
 use Prim.Native.Nat.{ℕ, suc, _-_, _^_, _<_, _≤_}
 use native.Mathlib.Omega.{arith}
@@ -10,16 +10,17 @@ use lib.Dec.{eqb}
 use lib.ListN.{length, set, take}
 use lib.Seq.{take-length}
 use borrow.Author.Tests.{eq-eqb, le-ltb, not-false}
+use Rattle.bits.proofs.Refusals.{neither}
 use Rattle.network.specs.Stage.{falling, butterflyOf, inverseOf}
 use Rattle.network.specs.Decoder.{decodeOf, decodeInverseOf}
 use Rattle.network.proofs.MaskRouting.{decoded-stage-lt, mask-routing-gather, mask-routing-scatter}
 use Rattle.unit.specs.declared.Bank.{Bank}
 use Rattle.unit.specs.declared.Ran.{Ran}
 use Rattle.unit.specs.Bank.{register, stagesOf, packedOf}
-use Rattle.unit.specs.Operation.{cyclesOf, isKind, usedOf, areRegisters, operationRefusal, stepOf}
-use Rattle.unit.specs.Calls.{operateOf}
-use Rattle.unit.specs.Run.{Operation, operationsOf, anyKind, anyRegister, stepsOf, sumOf, ranOf, endedOf, outcomeOf, refusedOf, runRefusal, runOf}
-use Rattle.unit.proofs.Asked.{operation-refusal-by}
+use Rattle.unit.specs.Operation.{cyclesOf, isKind, usedOf, areRegisters, operationRefusal, effectOf, stepOf}
+use Rattle.unit.specs.Calls.{operateOf, operatesOf}
+use Rattle.unit.specs.Run.{Operation, stepBy, operationsOf, anyKind, anyRegister, stepsOf, sumOf, ranOf, endedOf, outcomeOf, refusedOf, runRefusal, runOf}
+use Rattle.unit.proofs.LowestRefusals.{operation-refusal-by}
 use Rattle.unit.proofs.Held.{stages-packed}
 use Rattle.unit.proofs.OperationLists.{run-accepts}
 use Rattle.unit.proofs.Runs.{ran-fits, ran-stops}
@@ -87,14 +88,6 @@ accepted-step : (k : Bank) (kind r1 r2 r3 : ℕ) → operationRefusal kind r1 r2
 unfolding operateOf
 accepted-step k kind r1 r2 r3 e = rw (eq-eqb (operationRefusal kind r1 r2 r3) 0 e)
 
-unfoldable pub operatesOf : Bank → List Operation → Bank
-operatesOf k [] = k
-operatesOf k (o ∷ os) = operatesOf (operateOf k (o .0) (o .1) (o .2) (o .3) .bank) os
-
-neither : (a b : Bool) → (a || b) ≡ false → (a ≡ false) × (b ≡ false)
-neither true b e = absurd (false≢true (sym e))
-neither false b e = (refl, e)
-
 pub operates-steps : (k : Bank) (os : List Operation) → anyKind os ≡ false → anyRegister os ≡ false → operatesOf k os ≡ stepsOf k os
 unfolding operatesOf stepsOf anyKind anyRegister
 operates-steps k [] p q = refl
@@ -102,7 +95,7 @@ operates-steps k (o ∷ os) p q =
     let a = neither (not (isKind (o .0) (o .1))) (anyKind os) p in
     let b = neither (not (areRegisters (usedOf (o .0) (o .1) (o .2) (o .3)))) (anyRegister os) q in
     let z = operation-refusal-by (o .0) (o .1) (o .2) (o .3) (not-false _ (a .0)) (not-false _ (b .0)) in
-    ap (λ (j : Bank). operatesOf j os) (accepted-step k (o .0) (o .1) (o .2) (o .3) z) ∙ operates-steps (stepOf k (o .0) (o .1) (o .2) (o .3)) os (a .1) (b .1)
+    ap (λ (j : Bank). operatesOf j os) (accepted-step k (o .0) (o .1) (o .2) (o .3) z) ∙ operates-steps (stepBy k o) os (a .1) (b .1)
 
 -- A run with an ample budget leaves the bank that the calls on each operation in turn leave.
 pub run-in-turn : (k : Bank) (bytes : List ℕ) (budget : ℕ) → runRefusal bytes ≡ 0 → sumOf (operationsOf bytes) ≤ budget
@@ -128,14 +121,14 @@ module _ (k : Bank) (a b r1 r2 r3 : ℕ) (h : register k r3 < 2 ^ 64) where
 
   -- Kind 8, then 3, is kind 6 on the general registers.
   pub decode-then-pex : stepOf (stepOf k 8 a b r3) 3 r1 r2 r3 .general ≡ stepOf k 6 r1 r2 r3 .general
-  unfolding stepOf
+  unfolding effectOf
   decode-then-pex =
       ap (set (k .general) r1)
       (ap (λ (cs : List ℕ). inverseOf 6 cs (bitAnd (register k r2) mask)) (held-inverse mask) ∙ mask-routing-gather 6 mask (register k r2) h)
 
   -- Kind 9, then 4, is kind 7 on the general registers.
   pub decode-then-pdep : stepOf (stepOf k 9 a b r3) 4 r1 r2 r3 .general ≡ stepOf k 7 r1 r2 r3 .general
-  unfolding stepOf
+  unfolding effectOf
   decode-then-pdep =
       ap (set (k .general) r1)
       (ap (λ (cs : List ℕ). bitAnd (butterflyOf 6 cs (register k r2)) mask) (held mask) ∙ mask-routing-scatter 6 mask (register k r2) h)

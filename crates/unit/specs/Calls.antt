@@ -11,6 +11,7 @@ use Rattle.unit.specs.declared.Register.{Register}
 use Rattle.unit.specs.declared.Written.{Written}
 use Rattle.unit.specs.Bank.{register, withRegister}
 use Rattle.unit.specs.Operation.{cyclesOf, operationRefusal, stepOf}
+use Rattle.unit.specs.Run.{Operation}
 
 -- an answer and the bank beside it
 abbrev pub operated : Cycles → Bank → Operated
@@ -25,6 +26,11 @@ operateOf k kind r1 r2 r3 =
     cond (eqb (operationRefusal kind r1 r2 r3) 0)
     (record { answer = record { refusal = 0; cycles = cyclesOf kind }; bank = stepOf k kind r1 r2 r3 })
     (record { answer = record { refusal = operationRefusal kind r1 r2 r3; cycles = 0 }; bank = k })
+
+-- the bank that these calls leave, one after the other
+unfoldable pub operatesOf : Bank → List Operation → Bank
+operatesOf k [] = k
+operatesOf k (o ∷ os) = operatesOf (operateOf k (o .0) (o .1) (o .2) (o .3) .bank) os
 
 -- 8, "a register number in use above 15"
 abbrev pub numberConditions : ℕ → List (ℕ × Bool)

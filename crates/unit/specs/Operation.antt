@@ -25,7 +25,7 @@ tableEntry n [] other = other
 tableEntry n (e ∷ es) other = cond (eqb n (e .0)) (e .1) (tableEntry n es other)
 
 -- the kinds of the table are 1 to 10; in kind 5, r1 says what is loaded, 1 to 4
-unfoldable pub isKind : ℕ → ℕ → Bool
+abbrev pub isKind : ℕ → ℕ → Bool
 isKind kind r1 = leb 1 kind && leb kind 10 && (not (eqb kind 5) || leb 1 r1 && leb r1 4)
 
 -- the register numbers in use, by kind and in kind 5 by r1: "Bytes that a kind does not use are not looked at"
@@ -46,13 +46,13 @@ uses r1 r2 r3 =
     ∷ (10, r1 ∷ r2 ∷ r3 ∷ [])
     ∷ []
 
-unfoldable pub usedOf : ℕ → ℕ → ℕ → ℕ → List ℕ
+abbrev pub usedOf : ℕ → ℕ → ℕ → ℕ → List ℕ
 usedOf kind r1 r2 r3 = tableEntry kind (uses r1 r2 r3) []
 
 -- every number is that of a general register, 0 to 15
 abbrev pub areRegisters : List ℕ → Bool
 areRegisters [] = true
-areRegisters (n ∷ ns) = leb n 15 && areRegisters ns
+areRegisters (n ∷ ns) = areRegisters ns && leb n 15
 
 -- 'Calls turned back': 7, "kind not 1 to 10, or in kind 5 r1 not 1 to 4"; 8, "a register number in use above 15"
 abbrev pub operationConditions : ℕ → ℕ → ℕ → ℕ → List (ℕ × Bool)
@@ -73,20 +73,24 @@ loads k x y =
 unfoldable pub loadOf : Bank → ℕ → ℕ → ℕ → Bank
 loadOf k r1 x y = tableEntry r1 (loads k x y) k
 
--- The table, by kind: the bank k after an operation. Operands are those of k, before the result is written.
-abbrev pub steps : Bank → ℕ → ℕ → ℕ → List (ℕ × Bank)
-steps k r1 r2 r3 =
-    (1, withRegister k r1 (butterflyOf 6 (stagesOf (k .b)) (register k r2)))
-    ∷ (2, withRegister k r1 (inverseOf 6 (stagesOf (k .ib)) (register k r2)))
-    ∷ (3, withRegister k r1 (inverseOf 6 (stagesOf (k .ib)) (bitAnd (register k r2) (register k r3))))
-    ∷ (4, withRegister k r1 (bitAnd (butterflyOf 6 (stagesOf (k .b)) (register k r2)) (register k r3)))
-    ∷ (5, loadOf k r1 (register k r2) (register k r3))
-    ∷ (6, withRegister k r1 (gatherOf 64 (register k r3) (register k r2)))
-    ∷ (7, withRegister k r1 (scatterOf 64 (register k r3) (register k r2)))
-    ∷ (8, withIb k (packedOf (decodeInverseOf 6 (register k r3))))
-    ∷ (9, withB k (packedOf (decodeOf 6 (register k r3))))
-    ∷ (10, withRegister k r1 (groupOf 64 (register k r3) (register k r2)))
+-- The table, by kind: the bank k after an operation with x and y in r2 and r3
+abbrev pub effects : Bank → ℕ → ℕ → ℕ → List (ℕ × Bank)
+effects k r1 x y =
+    (1, withRegister k r1 (butterflyOf 6 (stagesOf (k .b)) x))
+    ∷ (2, withRegister k r1 (inverseOf 6 (stagesOf (k .ib)) x))
+    ∷ (3, withRegister k r1 (inverseOf 6 (stagesOf (k .ib)) (bitAnd x y)))
+    ∷ (4, withRegister k r1 (bitAnd (butterflyOf 6 (stagesOf (k .b)) x) y))
+    ∷ (5, loadOf k r1 x y)
+    ∷ (6, withRegister k r1 (gatherOf 64 y x))
+    ∷ (7, withRegister k r1 (scatterOf 64 y x))
+    ∷ (8, withIb k (packedOf (decodeInverseOf 6 y)))
+    ∷ (9, withB k (packedOf (decodeOf 6 y)))
+    ∷ (10, withRegister k r1 (groupOf 64 y x))
     ∷ []
 
-unfoldable pub stepOf : Bank → ℕ → ℕ → ℕ → ℕ → Bank
-stepOf k kind r1 r2 r3 = tableEntry kind (steps k r1 r2 r3) k
+unfoldable pub effectOf : Bank → ℕ → ℕ → ℕ → ℕ → Bank
+effectOf k kind r1 x y = tableEntry kind (effects k r1 x y) k
+
+-- Operands are those of k: they are read before the result is written.
+abbrev pub stepOf : Bank → ℕ → ℕ → ℕ → ℕ → Bank
+stepOf k kind r1 r2 r3 = effectOf k kind r1 (register k r2) (register k r3)

@@ -3,12 +3,12 @@ use Prim.Native.Nat.{ℕ, suc, _+_, _-_, _%_}
 use mathlib.Core.Bool.{Bool, false, not, cond, _||_}
 use mathlib.Core.List.{List, [], _∷_}
 use lib.Dec.{eqb, leb, ltb}
-use lib.ListN.{length, take}
+use lib.ListN.{length, getD, take}
 use Rattle.bits.specs.Refusal.{lowest}
 use Rattle.unit.specs.declared.Bank.{Bank}
 use Rattle.unit.specs.declared.Outcome.{Outcome}
 use Rattle.unit.specs.declared.Ran.{Ran}
-use Rattle.unit.specs.Operation.{cyclesOf, isKind, usedOf, areRegisters, stepOf}
+use Rattle.unit.specs.Operation.{cyclesOf, isKind, usedOf, areRegisters, operationRefusal, stepOf}
 
 -- "An operation is four bytes: kind, r1, r2, r3."
 abbrev pub Operation : Type 0
@@ -21,10 +21,21 @@ operationsOf (kind ∷ r1 ∷ []) = []
 operationsOf (kind ∷ r1 ∷ r2 ∷ []) = []
 operationsOf (kind ∷ r1 ∷ r2 ∷ r3 ∷ bytes) = (kind, r1, r2, r3) ∷ operationsOf bytes
 
+-- the operation at byte i of a list
+abbrev pub operationAt : List ℕ → ℕ → Operation
+operationAt bytes i = (getD bytes i 0, getD bytes (i + 1) 0, getD bytes (i + 2) 0, getD bytes (i + 3) 0)
+
+-- the refusal of an operation, and the bank after it
+abbrev pub ownRefusal : Operation → ℕ
+ownRefusal o = operationRefusal (o .0) (o .1) (o .2) (o .3)
+
+abbrev pub stepBy : Bank → Operation → Bank
+stepBy k o = stepOf k (o .0) (o .1) (o .2) (o .3)
+
 -- one after the other
 unfoldable pub stepsOf : Bank → List Operation → Bank
 stepsOf k [] = k
-stepsOf k (o ∷ os) = stepsOf (stepOf k (o .0) (o .1) (o .2) (o .3)) os
+stepsOf k (o ∷ os) = stepsOf (stepBy k o) os
 
 -- the sum of the table's figures
 unfoldable pub sumOf : List Operation → ℕ

@@ -2,15 +2,13 @@
 ghost use mathlib.Core.Path.{_≡_};
 ghost use Prim.Native.Nat.{_+_, _*_, _/_, _%_, _^_, _≤_, _<_};
 ghost use lib.ListN.{length, set};
-ghost use mathlib.Core.Bool.{true};
-ghost use mathlib.Core.List.{[], _∷_};
 ghost use Rattle.gather.specs.Gather.{gatherOf, scatterOf, groupOf};
 ghost use Rattle.network.specs.Decoder.{decodeOf, decodeInverseOf};
 ghost use Rattle.network.specs.Stage.{butterflyOf, inverseOf};
 ghost use Rattle.unit.specs.Bank.{register, withRegister, withB, withIb, stagesOf, packedOf};
 ghost use Rattle.unit.specs.Calls.{operateOf, numberRefusal, readOf, writeOf};
-ghost use Rattle.unit.specs.Run.{operationsOf, ranOf, lowerOf, operationsRefusal, runRefusal, endedOf, outcomeOf, runOf};
-ghost use Rattle.unit.specs.Operation.{cyclesOf, isKind, usedOf, areRegisters, operationRefusal, loadOf, stepOf};
+ghost use Rattle.unit.specs.Run.{operationAt, stepBy, ownRefusal, operationsOf, ranOf, lowerOf, operationsRefusal, runRefusal, endedOf, outcomeOf, runOf};
+ghost use Rattle.unit.specs.Operation.{cyclesOf, isKind, usedOf, areRegisters, operationRefusal, loadOf, effectOf, stepOf};
 
 // The registers of the unit: sixteen general ones, and the controls of both networks, two stages a register, the earlier one in the low half.
 #[repr(C)]
@@ -201,39 +199,7 @@ fn cycles_of(kind: u8) -> u32
 fn is_kind(kind: u8, r1: u8) -> bool
     ensures { λ r. ⌜ r ≡ isKind kind r1 ⌝ }
 {
-    if kind < 1 {
-        return false;
-    }
-    if 10 < kind {
-        return false;
-    }
-    if kind != 5 {
-        return true;
-    }
-    if r1 < 1 {
-        return false;
-    }
-    r1 <= 4
-}
-
-// Whether two numbers are those of general registers.
-fn are_two(r1: u8, r2: u8) -> bool
-    ensures { λ r. ⌜ r ≡ areRegisters (r1 ∷ r2 ∷ []) ⌝ }
-{
-    if 15 < r1 {
-        return false;
-    }
-    r2 <= 15
-}
-
-// Whether three numbers are.
-fn are_three(r1: u8, r2: u8, r3: u8) -> bool
-    ensures { λ r. ⌜ r ≡ areRegisters (r1 ∷ r2 ∷ r3 ∷ []) ⌝ }
-{
-    if 15 < r1 {
-        return false;
-    }
-    are_two(r2, r3)
+    (1 <= kind) & (kind <= 10) & ((kind != 5) | (1 <= r1) & (r1 <= 4))
 }
 
 // Whether every register number in use is one of a general register.
@@ -241,16 +207,16 @@ fn are_registers(kind: u8, r1: u8, r2: u8, r3: u8) -> bool
     ensures { λ r. ⌜ r ≡ areRegisters (usedOf kind r1 r2 r3) ⌝ }
 {
     match kind {
-        1 => are_two(r1, r2),
-        2 => are_two(r1, r2),
-        3 => are_three(r1, r2, r3),
-        4 => are_three(r1, r2, r3),
+        1 => (r2 <= 15) & (r1 <= 15),
+        2 => (r2 <= 15) & (r1 <= 15),
+        3 => (r3 <= 15) & (r2 <= 15) & (r1 <= 15),
+        4 => (r3 <= 15) & (r2 <= 15) & (r1 <= 15),
         5 => are_loaded(r1, r2, r3),
-        6 => are_three(r1, r2, r3),
-        7 => are_three(r1, r2, r3),
+        6 => (r3 <= 15) & (r2 <= 15) & (r1 <= 15),
+        7 => (r3 <= 15) & (r2 <= 15) & (r1 <= 15),
         8 => r3 <= 15,
         9 => r3 <= 15,
-        10 => are_three(r1, r2, r3),
+        10 => (r3 <= 15) & (r2 <= 15) & (r1 <= 15),
         _ => true,
     }
 }
@@ -260,9 +226,9 @@ fn are_loaded(r1: u8, r2: u8, r3: u8) -> bool
     ensures { λ r. ⌜ r ≡ areRegisters (usedOf 5 r1 r2 r3) ⌝ }
 {
     match r1 {
-        1 => are_two(r2, r3),
+        1 => (r3 <= 15) & (r2 <= 15),
         2 => r2 <= 15,
-        3 => are_two(r2, r3),
+        3 => (r3 <= 15) & (r2 <= 15),
         4 => r2 <= 15,
         _ => true,
     }
@@ -331,14 +297,12 @@ fn load(bank: Bank, r1: u8, x: u64, y: u64) -> Bank
     }
 }
 
-// What an accepted operation does to the bank: the table of paper 01.
-fn step(bank: Bank, kind: u8, r1: u8, r2: u8, r3: u8) -> Bank
-    ensures { λ r. ⌜ r ≡ stepOf bank kind r1 r2 r3 ⌝ }
+// The table of paper 01: what an accepted operation does to the bank, x and y being the words in r2 and r3.
+fn effect(bank: Bank, kind: u8, r1: u8, x: u64, y: u64) -> Bank
+    ensures { λ r. ⌜ r ≡ effectOf bank kind r1 x y ⌝ }
 {
     let b = bank.b;
     let ib = bank.ib;
-    let x = general_at(bank, r2);
-    let y = general_at(bank, r3);
     match kind {
         1 => with_general(bank, r1, butterfly_at(b, x)),
         2 => with_general(bank, r1, inverse_at(ib, x)),
@@ -352,6 +316,15 @@ fn step(bank: Bank, kind: u8, r1: u8, r2: u8, r3: u8) -> Bank
         10 => with_general(bank, r1, grouped(y, x)),
         _ => bank,
     }
+}
+
+// The bank after an accepted operation: both operands are read before the result is written.
+fn step(bank: Bank, kind: u8, r1: u8, r2: u8, r3: u8) -> Bank
+    ensures { λ r. ⌜ r ≡ stepOf bank kind r1 r2 r3 ⌝ }
+{
+    let x = general_at(bank, r2);
+    let y = general_at(bank, r3);
+    effect(bank, kind, r1, x, y)
 }
 
 // One operation on the bank: its cycles, or the lowest refusal and the bank as it was.
@@ -437,6 +410,22 @@ fn lower(a: u8, b: u8) -> u8
     a
 }
 
+// internal: an operation at byte `at`. Its lowest refusal.
+fn refusal_at(ops: &[u8], at: usize) -> u8
+    requires { ⌜ at + 3 < length (now ops) ⌝ }
+    ensures { λ r. ⌜ r ≡ ownRefusal (operationAt (now (ops .entry)) at) ⌝ }
+{
+    operation_refusal(ops[at], ops[at + 1], ops[at + 2], ops[at + 3])
+}
+
+// internal: an operation at byte `at`. The bank after it.
+fn step_at(bank: Bank, ops: &[u8], at: usize) -> Bank
+    requires { ⌜ at + 3 < length (now ops) ⌝ }
+    ensures { λ r. ⌜ r ≡ stepBy bank (operationAt (now (ops .entry)) at) ⌝ }
+{
+    step(bank, ops[at], ops[at + 1], ops[at + 2], ops[at + 3])
+}
+
 // internal: whole operations. The lowest refusal of any of them; 0 if there is none.
 fn operations_refusal(ops: &[u8]) -> u8
     requires { ⌜ length (now ops) % 4 ≡ 0 ⌝ }
@@ -445,8 +434,7 @@ fn operations_refusal(ops: &[u8]) -> u8
     let mut refused = bits::CARRIED_OUT;
     let mut at: usize = 0;
     while at < ops.len() {
-        let own = operation_refusal(ops[at], ops[at + 1], ops[at + 2], ops[at + 3]);
-        refused = lower(refused, own);
+        refused = lower(refused, refusal_at(ops, at));
         at += 4;
     }
     refused
@@ -479,7 +467,7 @@ fn carry_out(bank: Bank, ops: &[u8], budget: u32) -> Ran
         if left < cycles {
             return ended(SPENT, ran, budget - left, after);
         }
-        after = step(after, ops[at], ops[at + 1], ops[at + 2], ops[at + 3]);
+        after = step_at(after, ops, at);
         left -= cycles;
         ran += 1;
         at += 4;

@@ -1,8 +1,4 @@
 -- `unit::butterfly_at` meets its contract. Assumes nothing.
-use mathlib.Core.Path.{_∙_, ap}
-use mathlib.Core.List.{List}
-use Prim.Native.Nat.{ℕ}
-use Rattle.network.specs.Stage.{butterflyOf}
 use borrow.Author.Needs.{needs}
 use Rattle.unit.proofs.butterfly_at.Statement.{statement}
 use Rattle.unit.proofs.butterfly_at.Tie as tie
@@ -14,8 +10,7 @@ butterfly-64-requires : tie.Need-butterfly-64-requires
 butterfly-64-requires c κs = search needs
 
 returns : tie.Need-returns
-returns c =
-    c .butterfly-64 .ensures ∙ ap (λ (cs : List ℕ). butterflyOf 6 cs (c .before .before .args .word)) (c .before .stages-of .ensures)
+returns c = cc
 
 pub butterfly-at-spec : {M : Type 1} → statement M
 butterfly-at-spec = tie.close (tie.spec stages-of-requires butterfly-64-requires returns)

@@ -40,29 +40,8 @@ returns c =
     let g = rw (operations-next ops (l .at) h) at (l .inv .2) in
     c .ended .ensures ∙ going-spent g (b .cycles-of .ensures) (c .before .if1 .taken)
 
-shared-slice-read-step : tie.Need-shared-slice-read-step Inv-loop μ-loop
-shared-slice-read-step c = search needs
-
-add-step : tie.Need-add-step Inv-loop μ-loop
-add-step c = search needs
-
-shared-slice-read-step-2 : tie.Need-shared-slice-read-step-2 Inv-loop μ-loop
-shared-slice-read-step-2 c = search needs
-
-add-step-2 : tie.Need-add-step-2 Inv-loop μ-loop
-add-step-2 c = search needs
-
-shared-slice-read-step-3 : tie.Need-shared-slice-read-step-3 Inv-loop μ-loop
-shared-slice-read-step-3 c = search needs
-
-add-step-3 : tie.Need-add-step-3 Inv-loop μ-loop
-add-step-3 c = search needs
-
-shared-slice-read-step-4 : tie.Need-shared-slice-read-step-4 Inv-loop μ-loop
-shared-slice-read-step-4 c = search needs
-
-step-requires : tie.Need-step-requires Inv-loop μ-loop
-step-requires c κs = search needs
+step-at-requires : tie.Need-step-at-requires Inv-loop μ-loop
+step-at-requires c κs = search needs
 
 add-ran : tie.Need-add-ran Inv-loop μ-loop
 add-ran c = search needs
@@ -75,12 +54,12 @@ loop-less c = search needs
 
 loop-again : tie.Need-loop-again Inv-loop μ-loop
 loop-again c =
-    let b = c .before .before .before .before .before .before in
+    let b = c .before .before in
     let l = b .before .before .before .loop in
     let ops = b .before .before .before .before .before .args .ops .now in
     let h : l .at + 3 < length ops = search needs in
     let g = rw (operations-next ops (l .at) h) at (l .inv .2) in
-    (search needs, search needs, going-next g (b .cycles-of .ensures) (search needs) (c .step .ensures))
+    (search needs, search needs, going-next g (b .cycles-of .ensures) (search needs) (c .step-at .ensures))
 
 sub-ended-2 : tie.Need-sub-ended-2 Inv-loop μ-loop
 sub-ended-2 c = search needs
@@ -106,14 +85,7 @@ carry-out-spec =
     sub-ended
     ended-requires
     returns
-    shared-slice-read-step
-    add-step
-    shared-slice-read-step-2
-    add-step-2
-    shared-slice-read-step-3
-    add-step-3
-    shared-slice-read-step-4
-    step-requires
+    step-at-requires
     add-ran
     add-at
     loop-less

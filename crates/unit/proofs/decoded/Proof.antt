@@ -1,6 +1,4 @@
 -- `unit::decoded` meets its contract. Assumes nothing.
-use mathlib.Core.Path.{_∙_, ap}
-use Rattle.unit.specs.Bank.{packedOf}
 use borrow.Author.Needs.{needs}
 use Rattle.unit.proofs.decoded.Statement.{statement}
 use Rattle.unit.proofs.decoded.Tie as tie
@@ -12,7 +10,7 @@ packed-requires : tie.Need-packed-requires
 packed-requires c κs = search needs
 
 returns : tie.Need-returns
-returns c = c .packed .ensures ∙ ap packedOf (c .before .decode-64 .ensures)
+returns c = cc
 
 pub decoded-spec : {M : Type 1} → statement M
 decoded-spec = tie.close (tie.spec decode-64-requires packed-requires returns)

@@ -1,8 +1,4 @@
 -- `unit::inverse_at` meets its contract. Assumes nothing.
-use mathlib.Core.Path.{_∙_, ap}
-use mathlib.Core.List.{List}
-use Prim.Native.Nat.{ℕ}
-use Rattle.network.specs.Stage.{inverseOf}
 use borrow.Author.Needs.{needs}
 use Rattle.unit.proofs.inverse_at.Statement.{statement}
 use Rattle.unit.proofs.inverse_at.Tie as tie
@@ -14,8 +10,7 @@ inverse-64-requires : tie.Need-inverse-64-requires
 inverse-64-requires c κs = search needs
 
 returns : tie.Need-returns
-returns c =
-    c .inverse-64 .ensures ∙ ap (λ (cs : List ℕ). inverseOf 6 cs (c .before .before .args .word)) (c .before .stages-of .ensures)
+returns c = cc
 
 pub inverse-at-spec : {M : Type 1} → statement M
 inverse-at-spec = tie.close (tie.spec stages-of-requires inverse-64-requires returns)

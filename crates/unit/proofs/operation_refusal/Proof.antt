@@ -2,7 +2,7 @@
 use mathlib.Core.Path.{refl, sym, _∙_}
 use borrow.Author.Needs.{needs}
 use borrow.Author.Tests.{not-true, not-false}
-use Rattle.unit.proofs.Asked.{operation-refusal-by}
+use Rattle.unit.proofs.LowestRefusals.{operation-refusal-by}
 use Rattle.unit.proofs.operation_refusal.Statement.{statement}
 use Rattle.unit.proofs.operation_refusal.Tie as tie
 

@@ -18,32 +18,8 @@ abbrev μ-loop : tie.MeasureT-loop
 loop-holds : tie.Need-loop-holds Inv-loop μ-loop
 loop-holds c = (search needs, search needs, sofar-none)
 
-shared-slice-read-operation-refusal : tie.Need-shared-slice-read-operation-refusal Inv-loop μ-loop
-shared-slice-read-operation-refusal c = search needs
-
-add-operation-refusal : tie.Need-add-operation-refusal Inv-loop μ-loop
-add-operation-refusal c = search needs
-
-shared-slice-read-operation-refusal-2 :
-    tie.Need-shared-slice-read-operation-refusal-2 Inv-loop μ-loop
-shared-slice-read-operation-refusal-2 c = search needs
-
-add-operation-refusal-2 : tie.Need-add-operation-refusal-2 Inv-loop μ-loop
-add-operation-refusal-2 c = search needs
-
-shared-slice-read-operation-refusal-3 :
-    tie.Need-shared-slice-read-operation-refusal-3 Inv-loop μ-loop
-shared-slice-read-operation-refusal-3 c = search needs
-
-add-operation-refusal-3 : tie.Need-add-operation-refusal-3 Inv-loop μ-loop
-add-operation-refusal-3 c = search needs
-
-shared-slice-read-operation-refusal-4 :
-    tie.Need-shared-slice-read-operation-refusal-4 Inv-loop μ-loop
-shared-slice-read-operation-refusal-4 c = search needs
-
-operation-refusal-requires : tie.Need-operation-refusal-requires Inv-loop μ-loop
-operation-refusal-requires c κs = search needs
+refusal-at-requires : tie.Need-refusal-at-requires Inv-loop μ-loop
+refusal-at-requires c κs = search needs
 
 lower-requires : tie.Need-lower-requires Inv-loop μ-loop
 lower-requires c κs = search needs
@@ -56,12 +32,12 @@ loop-less c = search needs
 
 loop-again : tie.Need-loop-again Inv-loop μ-loop
 loop-again c =
-    let b = c .before .before .before .before .before .before .before in
+    let b = c .before .before .before in
     let l = b .loop in
     let ops = b .before .before .args .ops .now in
     let h : l .at + 3 < length ops = search needs in
     let s = rw (operations-next ops (l .at) h) at (l .inv .2) in
-    (search needs, search needs, sofar-next s (c .before .operation-refusal .ensures) (c .lower .ensures))
+    (search needs, search needs, sofar-next s (c .before .refusal-at .ensures) (c .lower .ensures))
 
 returns : tie.Need-returns Inv-loop μ-loop
 returns c =
@@ -76,14 +52,7 @@ operations-refusal-spec =
     Inv-loop
     μ-loop
     loop-holds
-    shared-slice-read-operation-refusal
-    add-operation-refusal
-    shared-slice-read-operation-refusal-2
-    add-operation-refusal-2
-    shared-slice-read-operation-refusal-3
-    add-operation-refusal-3
-    shared-slice-read-operation-refusal-4
-    operation-refusal-requires
+    refusal-at-requires
     lower-requires
     add-at
     loop-less
