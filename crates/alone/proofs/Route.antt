@@ -13,17 +13,11 @@ use borrow.Author.Tests.{eqb-true, eqb-false, eq-eqb, ne-eqb}
 use Rattle.bits.specs.Bit.{bit}
 use Rattle.bits.proofs.Word.{bit-mod}
 use Rattle.routing.specs.Stages.{switchAt, partnerAt, through, butterfly}
+use Rattle.routing.proofs.Through.{odd-above}
 use Rattle.alone.specs.Asked.{crossed, straight}
 
 half-above : (e x : ℕ) → x / 2 ^ suc e ≡ x / 2 ^ e / 2
 half-above e x = rw pow-suc (sym (div-div-eq-div-mul x (2 ^ e) 2))
-
-odd-above : (e x : ℕ) → (x / 2 ^ e % 2 ≡ 0 → ⊥) → 2 ^ e ≤ x
-odd-above e x odd = go (decLt x (2 ^ e))
-  where
-    go : Dec (x < 2 ^ e) → 2 ^ e ≤ x
-    go (yes l) = absurd (odd (ap (λ (y : ℕ). y % 2) (div-eq-of-lt l)))
-    go (no n) = omega arith
 
 -- the other number of an even one and the next
 abbrev paired : ℕ → ℕ

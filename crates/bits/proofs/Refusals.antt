@@ -1,7 +1,7 @@
 -- Laws of widths and refusals. Assumes nothing.
 use mathlib.Core.Path.{_≡_, refl, sym, _∙_, ap, subst}
 use mathlib.Core.Logic.{_⊎_, inl, inr}
-use mathlib.Core.Bool.{Bool, true, false, cond, not, _||_, true≢false}
+use mathlib.Core.Bool.{Bool, true, false, cond, not, _&&_, _||_, true≢false}
 use mathlib.Core.List.{List, [], _∷_}
 use Prim.Native.Nat.{ℕ, _/_, _^_, _<_, _≤_}
 use native.Mathlib.Omega.{arith}
@@ -70,10 +70,14 @@ none-from b (c ∷ cs) r e = by-test (c .1) refl e (none-from (c .0) cs (r .1))
 pub none-applies : (cs : List (ℕ × Bool)) → Rising 0 cs → lowest cs ≡ 0 → NoneApplies cs
 none-applies cs r e = none-from 0 cs r e
 
--- neither of two conditions under one number
+-- neither of two conditions under one number; both of two tests
 pub neither : (a b : Bool) → (a || b) ≡ false → (a ≡ false) × (b ≡ false)
 neither true b e = absurd (true≢false e)
 neither false b e = (refl, e)
+
+pub both : (a b : Bool) → (a && b) ≡ true → (a ≡ true) × (b ≡ true)
+both true b e = (refl, e)
+both false b e = absurd (true≢false (sym e))
 
 -- an accepted width is two to the power of its logarithm, 3 to 6
 

@@ -1,4 +1,4 @@
-// Prints rows 12 and 13 of paper 01's reel of examples: the row, a space, sixteen lower-case hexadecimal digits.
+// Prints rows 12 and 13 of paper 01, 'Reel of examples': the row, a space, sixteen lower-case hexadecimal digits.
 ghost use Prim.Native.Nat.{_<_};
 use libc::STDOUT_FILENO;
 

@@ -266,7 +266,7 @@ fn take_entries(to: &mut [u8; 64], from: &mut [u8; 64], entries: &[u8])
     }
 }
 
-// internal: a logarithm of at most 6, and a permutation of that many places. Its first controls.
+// internal: a logarithm of at most 6, and a permutation of that width. Its first controls.
 pub fn controls(log: usize, entries: &[u8]) -> Stages
     requires { ⌜ (log ≤ 6) × ListPermutes (2 ^ log) (now entries) ⌝ }
     ensures { λ r. ⌜ (r .butterfly ≡ six (firstWords log (now (entries .entry)) .butterfly)) × (r .inverse ≡ six (firstWords log (now (entries .entry)) .inverse)) ⌝ }

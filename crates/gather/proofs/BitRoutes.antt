@@ -18,31 +18,31 @@ use Rattle.gather.proofs.AnyWidth.{gather-lt, scatter-lt}
 use Rattle.gather.proofs.Theorems.{bit-gather, bit-gather-above, bit-scatter}
 
 -- where what stood at p is after i moves
-pub place : ℕ → ℕ → ℕ → ℕ
-place m i p = p - gaps m p % 2 ^ i
+pub placeOf : ℕ → ℕ → ℕ → ℕ
+placeOf m i p = p - gaps m p % 2 ^ i
 
 module _ (m : ℕ) where
-  place-le : (i p : ℕ) → place m i p ≤ p
-  unfolding place
+  place-le : (i p : ℕ) → placeOf m i p ≤ p
+  unfolding placeOf
   place-le i p = omega arith
 
-  place-none : (p : ℕ) → place m 0 p ≡ p
-  unfolding place
+  place-none : (p : ℕ) → placeOf m 0 p ≡ p
+  unfolding placeOf
   place-none p = omega (arith, mod-one (gaps m p))
 
-  place-all : (p : ℕ) → p < 64 → place m 6 p ≡ rank m p
-  unfolding place
+  place-all : (p : ℕ) → p < 64 → placeOf m 6 p ≡ rank m p
+  unfolding placeOf
   place-all p l = omega (arith, gaps-rank m p, mod-eq-of-lt {n = gaps m p} {m = 64} (omega (arith, gaps-rank m p)))
 
-  place-next : (i p : ℕ) → place m (i + 1) p + bit (gaps m p) i * 2 ^ i ≡ place m i p
-  unfolding place bit
+  place-next : (i p : ℕ) → placeOf m (i + 1) p + bit (gaps m p) i * 2 ^ i ≡ placeOf m i p
+  unfolding placeOf bit
   place-next i p =
       let e : 1 + i ≡ i + 1 = omega arith in
       omega (arith, gaps-rank m p, rw e at (mod-pow-add (gaps m p) 1 i), mod-le (gaps m p) (2 ^ (i + 1)))
 
   -- the places between have too few gaps to change bit i
-  place-bit : (i p : ℕ) → bit (gaps m (place m i p)) i ≡ bit (gaps m p) i
-  unfolding place bit
+  place-bit : (i p : ℕ) → bit (gaps m (placeOf m i p)) i ≡ bit (gaps m p) i
+  unfolding placeOf bit
   place-bit i p =
       let g = gaps m p in
       let d = 2 ^ i in
@@ -53,16 +53,16 @@ module _ (m : ℕ) where
       ap (λ (n : ℕ). n / d % 2) e ∙ ap (λ (n : ℕ). n % 2) (high (g / d) i {lo = t} (omega (arith, split g i, mod-lt g (pow-pos i), b .0)))
 
   -- one move more, by the word that marks what moves
-  module _ {i w : ℕ} (h : Move m i w) (p : ℕ) (l : p < 64) {q : ℕ} (e : place m i p ≡ q) where
-    place-move : place m (i + 1) p + bit w q * 2 ^ i ≡ q
+  module _ {i w : ℕ} (h : Move m i w) (p : ℕ) (l : p < 64) {q : ℕ} (e : placeOf m i p ≡ q) where
+    place-move : placeOf m (i + 1) p + bit w q * 2 ^ i ≡ q
     place-move =
-        let b : bit w q ≡ bit (gaps m p) i = rw (← e) (h .at (place m i p) (omega (arith, place-le i p)) ∙ place-bit i p) in
+        let b : bit w q ≡ bit (gaps m p) i = rw (← e) (h .at (placeOf m i p) (omega (arith, place-le i p)) ∙ place-bit i p) in
         rw (b, ← e) (place-next i p)
 
-    place-stays : bit w q ≡ 0 → place m (i + 1) p ≡ q
+    place-stays : bit w q ≡ 0 → placeOf m (i + 1) p ≡ q
     place-stays z = omega (arith, place-move, ap (λ (n : ℕ). n * 2 ^ i) z)
 
-    place-moves : bit w q ≡ 1 → 2 ^ i + place m (i + 1) p ≡ q
+    place-moves : bit w q ≡ 1 → 2 ^ i + placeOf m (i + 1) p ≡ q
     place-moves o = omega (arith, place-move, ap (λ (n : ℕ). n * 2 ^ i) o)
 
 -- the code's distance of move i
@@ -77,11 +77,11 @@ module _ (i : ℕ) (h : i < 6) where
 
 -- a one of v that is at q after i moves
 abbrev Source : ℕ → ℕ → ℕ → ℕ → Type 0
-Source m v i q = (p : ℕ) × (p < 64) × (bit v p ≡ 1) × (place m i p ≡ q)
+Source m v i q = (p : ℕ) × (p < 64) × (bit v p ≡ 1) × (placeOf m i p ≡ q)
 
 pub record Pushed (m v i y : ℕ) : Type 0 where
   pub fits : y < 2 ^ 64
-  pub to : (p : ℕ) → p < 64 → bit v p ≡ 1 → bit y (place m i p) ≡ 1
+  pub to : (p : ℕ) → p < 64 → bit v p ≡ 1 → bit y (placeOf m i p) ≡ 1
   pub from : (q : ℕ) → q < 64 → bit y q ≡ 1 → Source m v i q
 
 pub pushed-none : {m v : ℕ} → v < 2 ^ 64 → Pushed m v 0 v
@@ -115,12 +115,12 @@ module _ (s w y q : ℕ) where
       by-cases (inr a) (inr b) = inr (omega (arith, bit-down, bit-lt y (s + q), bit-lt w (s + q)))
 
 module _ {m v i y w : ℕ} (h : Pushed m v i y) (d : Move m i w) where
-  to-next : (p : ℕ) → p < 64 → bit v p ≡ 1 → bit (down (2 ^ i) w y) (place m (i + 1) p) ≡ 1
-  to-next p l b = by-cases (bit-cases w (place m i p))
+  to-next : (p : ℕ) → p < 64 → bit v p ≡ 1 → bit (down (2 ^ i) w y) (placeOf m (i + 1) p) ≡ 1
+  to-next p l b = by-cases (bit-cases w (placeOf m i p))
     where
-      by-cases : (bit w (place m i p) ≡ 0) ⊎ (bit w (place m i p) ≡ 1) → bit (down (2 ^ i) w y) (place m (i + 1) p) ≡ 1
-      by-cases (inl z) = rw (place-stays m d p l refl z) (stays (2 ^ i) w y (place m i p) (h .to p l b) z)
-      by-cases (inr o) = comes (2 ^ i) w y (place m (i + 1) p) (place-moves m d p l refl o) (h .to p l b) o
+      by-cases : (bit w (placeOf m i p) ≡ 0) ⊎ (bit w (placeOf m i p) ≡ 1) → bit (down (2 ^ i) w y) (placeOf m (i + 1) p) ≡ 1
+      by-cases (inl z) = rw (place-stays m d p l refl z) (stays (2 ^ i) w y (placeOf m i p) (h .to p l b) z)
+      by-cases (inr o) = comes (2 ^ i) w y (placeOf m (i + 1) p) (place-moves m d p l refl o) (h .to p l b) o
 
   from-next : (q : ℕ) → q < 64 → bit (down (2 ^ i) w y) q ≡ 1 → Source m v (i + 1) q
   from-next q l b = by-cases (whence (2 ^ i) w y q b) (decLt (2 ^ i + q) 64)
@@ -174,7 +174,7 @@ module _ (m x : ℕ) {y : ℕ} (h : Pushed m (bitAnd x m) 6 y) where
 -- Scatter, the moves undone from the last: what is to come to p stands where p's bit would be after i moves
 
 pub record Pulled (m x i y : ℕ) : Type 0 where
-  pub at : (p : ℕ) → p < 64 → bit y (place m i p) ≡ bit x (rank m p)
+  pub at : (p : ℕ) → p < 64 → bit y (placeOf m i p) ≡ bit x (rank m p)
 
 pub pulled-all : {m x : ℕ} → Pulled m x 6 x
 pulled-all {m} {x} = record { at = λ p l. ap (bit x) (place-all m p l) }
@@ -195,15 +195,15 @@ module _ (s w y q : ℕ) where
 
 pub pulled-next : {m x i j y w s : ℕ} → j + 1 ≡ i → Pulled m x i y → Move m j w → s ≡ 2 ^ j
     → Pulled m x j (bitXor y (bitAnd (bitXor y (y * 2 ^ s % 2 ^ 64)) w))
-pulled-next {m} {x} {i} {j} {y} {w} {s} n h d e = rw e (record { at = λ p l. by-cases p l (bit-cases w (place m j p)) })
+pulled-next {m} {x} {i} {j} {y} {w} {s} n h d e = rw e (record { at = λ p l. by-cases p l (bit-cases w (placeOf m j p)) })
   where
-    came : (p : ℕ) → p < 64 → bit y (place m (j + 1) p) ≡ bit x (rank m p)
+    came : (p : ℕ) → p < 64 → bit y (placeOf m (j + 1) p) ≡ bit x (rank m p)
     came p l = rw n (h .at p l)
 
-    by-cases : (p : ℕ) → p < 64 → (bit w (place m j p) ≡ 0) ⊎ (bit w (place m j p) ≡ 1) → bit (up (2 ^ j) w y) (place m j p) ≡ bit x (rank m p)
-    by-cases p l (inl z) = keeps (2 ^ j) w y (place m j p) z ∙ ap (bit y) (sym (place-stays m d p l refl z)) ∙ came p l
+    by-cases : (p : ℕ) → p < 64 → (bit w (placeOf m j p) ≡ 0) ⊎ (bit w (placeOf m j p) ≡ 1) → bit (up (2 ^ j) w y) (placeOf m j p) ≡ bit x (rank m p)
+    by-cases p l (inl z) = keeps (2 ^ j) w y (placeOf m j p) z ∙ ap (bit y) (sym (place-stays m d p l refl z)) ∙ came p l
     by-cases p l (inr o) =
-        takes (2 ^ j) w y (place m j p) (place m (j + 1) p) (omega (arith, place-le m j p)) (place-moves m d p l refl o) o ∙ came p l
+        takes (2 ^ j) w y (placeOf m j p) (placeOf m (j + 1) p) (omega (arith, place-le m j p)) (place-moves m d p l refl o) o ∙ came p l
 
 -- the marked places of y are the scatter
 pub pulled-none : (m x : ℕ) {y : ℕ} → Pulled m x 0 y → m < 2 ^ 64 → bitAnd y m ≡ scatterOf 64 m x

@@ -61,7 +61,7 @@ sums-all {x} {y} h =
 
 -- Halving: k has, from each q down, the gaps below q divided by 2 ^ i
 
-pub record Halved (m i k : ℕ) : Type 0 where
+pub record HalvesGaps (m i k : ℕ) : Type 0 where
   pub at : (q : ℕ) → q < 64 → rank k (suc q) ≡ gaps m q / 2 ^ i
 
 -- without its ones of odd number, a word has half of them below every place
@@ -86,11 +86,11 @@ halved-at {m} h (suc q) l =
       bit-not 64 q h (omega arith),
     )
 
-pub halved-none : {m : ℕ} → m < 2 ^ 64 → Halved m 0 (((2 ^ 64 - 1) - m) * 2 ^ 1 % 2 ^ 64)
+pub halved-none : {m : ℕ} → m < 2 ^ 64 → HalvesGaps m 0 (((2 ^ 64 - 1) - m) * 2 ^ 1 % 2 ^ 64)
 halved-none {m} h = record { at = λ q l. halved-at h q l ∙ sym (div-one (gaps m q)) }
 
-module _ {m i k y : ℕ} (h : Halved m i k) (p : Parities k y) where
-  pub halved-next : y < 2 ^ 64 → Halved m (i + 1) (bitAnd k ((2 ^ 64 - 1) - y))
+module _ {m i k y : ℕ} (h : HalvesGaps m i k) (p : Parities k y) where
+  pub halved-next : y < 2 ^ 64 → HalvesGaps m (i + 1) (bitAnd k ((2 ^ 64 - 1) - y))
   halved-next f =
       record { at = λ q l. half-ones p f (suc q) l ∙ ap (λ (n : ℕ). n / 2) (h .at q l) ∙ shr-shr (gaps m q) i 1 }
 

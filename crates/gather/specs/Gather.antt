@@ -19,7 +19,7 @@ scatterOf w m x = put (marked m w) x
 unfoldable pub groupOf : ℕ → ℕ → ℕ → ℕ
 groupOf w m x = pick (marked m w ++ unmarked m w) x
 
--- 'Calls turned back': 1, width not 8, 16, 32, 64; 2, word or mask has a one at bit w or above
+-- 'Calls turned back': 1, "width not 8, 16, 32, 64"; 2, "word or mask has a one at line w or above"
 abbrev pub conditionsOf : ℕ → ℕ → ℕ → List (ℕ × Bool)
 conditionsOf w m x = (1, not (accepted w)) ∷ (2, not (fits w x) || not (fits w m)) ∷ []
 

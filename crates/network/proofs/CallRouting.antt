@@ -150,13 +150,13 @@ pub calls-undo-inverse : (w : ℕ) (k : Controls) (x : ℕ) → length (k .stage
 unfolding butterflyOf inverseOf travelOf
 calls-undo-inverse = calls-back true
 
--- A network made ready.
+-- A prepared network.
 
 module _ (w : ℕ) (k : Controls) (hk : length (k .stages) ≡ 6) where
   module _ (x : ℕ) (h : networkRefusal w (k .stages) x ≡ 0) where
-    ready : (b : Bool) → prepareAnswer b w k ≡ record { refusal = 0; swaps = preparedOf b (logOf w) (k .stages) }
+    prepared-is : (b : Bool) → prepareAnswer b w k ≡ record { refusal = 0; swaps = preparedOf b (logOf w) (k .stages) }
     unfolding prepareAnswer
-    ready b =
+    prepared-is b =
         let i = network-within w (k .stages) x h in
         rw (network-refusal-by w (k .stages) 0 (i .0) (lt-ltb 0 (2 ^ w) (pow-pos w)) (i .2))
 
@@ -165,9 +165,9 @@ module _ (w : ℕ) (k : Controls) (hk : length (k .stages) ≡ 6) where
         let i = network-within w (k .stages) x h in
         let n = log-width w (i .0) .0 in
         rw (network-is (travelOf b) w k x (i .0) (i .1) (i .2))
-        (ap (λ (a : Prepared). a .refusal) (ready b), ap (λ (a : Prepared). exchanges b (a .swaps) x) (ready b) ∙ six-same (logOf w) (log-le w) (k .stages) hk b (rw n at (i .1)))
+        (ap (λ (a : Prepared). a .refusal) (prepared-is b), ap (λ (a : Prepared). exchanges b (a .swaps) x) (prepared-is b) ∙ six-same (logOf w) (log-le w) (k .stages) hk b (rw n at (i .1)))
 
-    -- Wherever a call of a network is carried out, the network made ready answers the same word.
+    -- Wherever a call of a network is carried out, the prepared network answers the same word.
 
     pub butterfly-prepared-same : (prepareAnswer false w k .refusal ≡ 0)
         × (exchangesOf (falling 6) (prepareAnswer false w k .swaps) x ≡ networkAnswer butterflyOf w k x .word)
@@ -186,11 +186,11 @@ module _ (w : ℕ) (k : Controls) (hk : length (k .stages) ≡ 6) where
         let n = log-width w (i .0) .0 in
         let L = logOf w in
         rw (network-is (travelOf b) w k (x % 2 ^ w) (i .0) (mod-lt x (pow-pos w)) (i .2))
-        (ap₂ (λ (a : Prepared) (v : ℕ). exchanges b (a .swaps) x % 2 ^ v) (ready 0 h b) n
+        (ap₂ (λ (a : Prepared) (v : ℕ). exchanges b (a .swaps) x % 2 ^ v) (prepared-is 0 h b) n
         ∙ six-below L (log-le w) (k .stages) hk b hx
         ∙ ap (λ (v : ℕ). travelOf b L (k .stages) (x % 2 ^ v)) (sym n))
 
-    -- Of any word the network made ready sends the bits below the width as the call sends them: the others stay at the width and above.
+    -- Of any word a prepared network sends the bits below the width as the call sends them.
 
     pub butterfly-prepared-below : exchangesOf (falling 6) (prepareAnswer false w k .swaps) x % 2 ^ w ≡ networkAnswer butterflyOf w k (x % 2 ^ w) .word
     unfolding butterflyOf travelOf

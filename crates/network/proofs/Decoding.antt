@@ -16,7 +16,7 @@ use Rattle.gather.proofs.AnyWidth.{gather-lt}
 use Rattle.network.specs.Stage.{source, falling, butterflyOf}
 use Rattle.network.specs.Decoder.{turned, controlAt, decodedStage, decodeOf}
 use Rattle.gather.proofs.Theorems.{bit-gather, bit-gather-above}
-use Rattle.network.proofs.Index.{place, on-places, block-lt, half-of, source-at}
+use Rattle.network.proofs.Index.{placeAt, on-places, block-lt, half-of, source-at}
 use Rattle.network.proofs.Turn.{turned-bit}
 use Rattle.network.proofs.Travel.{Fits, origin, origin-injective, travel-lt, bit-travel, pow-fits, falling-fit}
 
@@ -25,13 +25,13 @@ abbrev count : ℕ → ℕ → ℕ → ℕ
 count d m J = rank m (2 * J * d + d)
 
 -- at a marked place of half e, the count (with e halves added) is above the place's rank, by at most a half
-count-near : (d m J e u : ℕ) → e < 2 → u < d → bit m (place d J e u) ≡ 1
-    → (rank m (place d J e u) < count d m J + e * d) × (count d m J + e * d ≤ rank m (place d J e u) + d)
+count-near : (d m J e u : ℕ) → e < 2 → u < d → bit m (placeAt d J e u) ≡ 1
+    → (rank m (placeAt d J e u) < count d m J + e * d) × (count d m J + e * d ≤ rank m (placeAt d J e u) + d)
 count-near d m J zero u he hu b =
-    let z = rank-between m (place d J 0 u) (2 * J * d + d) (omega arith) in
+    let z = rank-between m (placeAt d J 0 u) (2 * J * d + d) (omega arith) in
     (omega (arith, rank-lt m {w = 2 * J * d + d} b (omega arith)), omega (arith, z))
 count-near d m J (suc zero) u he hu b =
-    let z = rank-between m (2 * J * d + d) (place d J 1 u) (omega arith) in
+    let z = rank-between m (2 * J * d + d) (placeAt d J 1 u) (omega arith) in
     (omega (arith, z), omega (arith, z))
 count-near d m J (suc (suc e)) u he hu b = absurd (omega arith)
 
@@ -55,11 +55,11 @@ module _ {w d : ℕ} (f : Fits w d) (m : ℕ) where
       → source d (decodedStage w m d) (p / d * d + rank m p % d) ≡ p / (2 * d) * (2 * d) + rank m p % (2 * d)
   source-marked = on-places (f .positive) _ at
     where
-      at : (J e u : ℕ) → e < 2 → u < d → place d J e u < w → bit m (place d J e u) ≡ 1
-          → source d (decodedStage w m d) (place d J e u / d * d + rank m (place d J e u) % d)
-          ≡ place d J e u / (2 * d) * (2 * d) + rank m (place d J e u) % (2 * d)
+      at : (J e u : ℕ) → e < 2 → u < d → placeAt d J e u < w → bit m (placeAt d J e u) ≡ 1
+          → source d (decodedStage w m d) (placeAt d J e u / d * d + rank m (placeAt d J e u) % d)
+          ≡ placeAt d J e u / (2 * d) * (2 * d) + rank m (placeAt d J e u) % (2 * d)
       at J e u he hu h b =
-          let p = place d J e u in
+          let p = placeAt d J e u in
           let r = rank m p in
           let t = r % d in
           let ht : t < d = mod-lt r (f .positive) in

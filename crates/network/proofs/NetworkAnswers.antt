@@ -1,7 +1,7 @@
 -- What the calls answer, by the tests that the code makes: whether controls fit, the lowest refusal (demand 1), the networks, prepared ones, the decoder.
 -- Assumes nothing.
 use mathlib.Core.Path.{_≡_, refl, sym, _∙_, ap, ap₂}
-use mathlib.Core.Bool.{Bool, true, false, not, cond, _&&_, false≢true}
+use mathlib.Core.Bool.{Bool, true, false, not, cond, _&&_}
 use mathlib.Core.List.{List, [], _∷_, reverse}
 use Prim.Native.Nat.{ℕ, zero, suc, _+_, _-_, _*_, _%_, _^_, _<_, _≤_}
 use native.Mathlib.Omega.{arith}
@@ -17,7 +17,7 @@ use mir.Val.{Fits}
 use mir.Syntax.{w32}
 use borrow.Author.Tests.{eq-eqb, ne-eqb, lt-ltb, le-ltb, ltb-true, not-false}
 use Rattle.bits.specs.Refusal.{logOf, accepted, fits, lowest, AnswersLowest}
-use Rattle.bits.proofs.Refusals.{log-width, answers-lowest, none-applies}
+use Rattle.bits.proofs.Refusals.{log-width, answers-lowest, none-applies, both}
 use Rattle.network.specs.declared.Controls.{Controls}
 use Rattle.network.specs.declared.Carried.{Carried}
 use Rattle.network.specs.declared.Prepared.{Prepared}
@@ -61,10 +61,6 @@ each-fit L j (c ∷ cs) f =
     let h : c < 2 ^ usedBits L j = rw add-zero at (f 0 (omega arith)) in
     ap (λ (b : Bool). b && controlsFit L (suc j) cs) (lt-ltb c (2 ^ usedBits L j) h)
     ∙ each-fit L (suc j) cs (λ i l. let n : j + suc i ≡ suc j + i = omega arith in rw n at (f (suc i) (omega arith)))
-
-both : (a b : Bool) → (a && b) ≡ true → (a ≡ true) × (b ≡ true)
-both true b e = (refl, e)
-both false b e = absurd (false≢true e)
 
 pub fit-each : (L j : ℕ) (cs : List ℕ) → controlsFit L j cs ≡ true → (i : ℕ) → i < length cs → getD cs i 0 < 2 ^ usedBits L (j + i)
 fit-each L j [] e i h = absurd (omega arith)
@@ -125,7 +121,7 @@ module _ (f : ℕ → List ℕ → ℕ → ℕ) (w : ℕ) (k : Controls) (x : �
       let used = each-fit 6 0 (k .stages) (λ i l. rw (zero-add i, lt-ltb i 6 (omega arith)) (u i .fits)) in
       sym (network-is (rw e) (rw e h) (rw e used) ∙ rw (e, y))
 
--- a call that makes a network ready
+-- a call that prepares a network
 
 -- demand 1, of both: its conditions are those of a call on the word zero
 pub prepare-lowest : (b : Bool) (w : ℕ) (k : Controls)

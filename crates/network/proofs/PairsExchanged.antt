@@ -13,7 +13,7 @@ use Rattle.bits.specs.Bit.{bit}
 use Rattle.bits.proofs.Word.{digit, bit-lt, bit-cases, bit-mod-two, bit-and, bit-or, bit-xor, bit-not, bit-shr, bit-shl-below, bit-shl-from, bit-above, bit-ofBits, ofBits-lt, ext}
 use Rattle.network.specs.Stage.{switchOf, source, stage}
 use Rattle.network.specs.Word.{atLower, pairs, spreadOf, swapsOf, exchangeOf}
-use Rattle.network.proofs.Index.{place, on-places, side-of, switch-at, source-at}
+use Rattle.network.proofs.Index.{placeAt, on-places, side-of, switch-at, source-at}
 use Rattle.network.proofs.Travel.{bit-stage, stage-lt}
 
 shl-above : (x d q : ℕ) → d + q < 64 → bit (x * 2 ^ d % 2 ^ 64) (d + q) ≡ bit x q
@@ -27,28 +27,28 @@ module _ (d : ℕ) (f : ℕ → ℕ) where
   lower-lt = ofBits-lt 64 (λ p. cond (eqb (p / d % 2) 0) (f p) 0)
 
   module _ (J t : ℕ) (h : t < d) where
-    pub bit-lower : place d J 0 t < 64 → bit (atLower d f) (place d J 0 t) ≡ f (place d J 0 t) % 2
+    pub bit-lower : placeAt d J 0 t < 64 → bit (atLower d f) (placeAt d J 0 t) ≡ f (placeAt d J 0 t) % 2
     unfolding atLower
     bit-lower l =
-        bit-ofBits 64 (λ p. cond (eqb (p / d % 2) 0) (f p) 0) (place d J 0 t) l
-        ∙ ap (λ (b : Bool). cond b (f (place d J 0 t)) 0 % 2) (eq-eqb (place d J 0 t / d % 2) 0 (side-of d J 0 t (omega arith) h))
+        bit-ofBits 64 (λ p. cond (eqb (p / d % 2) 0) (f p) 0) (placeAt d J 0 t) l
+        ∙ ap (λ (b : Bool). cond b (f (placeAt d J 0 t)) 0 % 2) (eq-eqb (placeAt d J 0 t / d % 2) 0 (side-of d J 0 t (omega arith) h))
 
-    pub bit-upper : place d J 1 t < 64 → bit (atLower d f) (place d J 1 t) ≡ 0
+    pub bit-upper : placeAt d J 1 t < 64 → bit (atLower d f) (placeAt d J 1 t) ≡ 0
     unfolding atLower
     bit-upper l =
-        bit-ofBits 64 (λ p. cond (eqb (p / d % 2) 0) (f p) 0) (place d J 1 t) l
-        ∙ ap (λ (b : Bool). cond b (f (place d J 1 t)) 0 % 2)
-        (ne-eqb (place d J 1 t / d % 2) 0 (λ e. omega (arith, side-of d J 1 t (omega arith) h)))
+        bit-ofBits 64 (λ p. cond (eqb (p / d % 2) 0) (f p) 0) (placeAt d J 1 t) l
+        ∙ ap (λ (b : Bool). cond b (f (placeAt d J 1 t)) 0 % 2)
+        (ne-eqb (placeAt d J 1 t / d % 2) 0 (λ e. omega (arith, side-of d J 1 t (omega arith) h)))
 
 module _ (d c J t : ℕ) (h : t < d) where
-  pub bit-spread : place d J 0 t < 64 → bit (spreadOf d c) (place d J 0 t) ≡ bit c (J * d + t)
+  pub bit-spread : placeAt d J 0 t < 64 → bit (spreadOf d c) (placeAt d J 0 t) ≡ bit c (J * d + t)
   unfolding spreadOf
   bit-spread l =
       bit-lower d (λ p. bit c (switchOf d p)) J t h l
-      ∙ bit-mod-two c (switchOf d (place d J 0 t))
+      ∙ bit-mod-two c (switchOf d (placeAt d J 0 t))
       ∙ ap (bit c) (switch-at d J 0 t (omega arith) h)
 
-  pub bit-spread-upper : place d J 1 t < 64 → bit (spreadOf d c) (place d J 1 t) ≡ 0
+  pub bit-spread-upper : placeAt d J 1 t < 64 → bit (spreadOf d c) (placeAt d J 1 t) ≡ 0
   unfolding spreadOf
   bit-spread-upper l = bit-upper d (λ p. bit c (switchOf d p)) J t h l
 
@@ -61,78 +61,78 @@ abbrev exchanged : ℕ → ℕ → ℕ → ℕ
 exchanged d c x = bitXor (bitXor x (differ d c x)) (differ d c x * 2 ^ d % 2 ^ 64)
 
 module _ (d c J t : ℕ) (h : t < d) where
-  bit-swaps : place d J 0 t < 64 → bit (swapsOf d c) (place d J 0 t) ≡ 1 - bit c (J * d + t)
+  bit-swaps : placeAt d J 0 t < 64 → bit (swapsOf d c) (placeAt d J 0 t) ≡ 1 - bit c (J * d + t)
   unfolding spreadOf swapsOf
   bit-swaps l =
-      bit-and (pairs d) ((2 ^ 64 - 1) - spreadOf d c) (place d J 0 t)
+      bit-and (pairs d) ((2 ^ 64 - 1) - spreadOf d c) (placeAt d J 0 t)
       ∙ omega (
         arith,
         bit-lower d (λ p. 1) J t h l,
-        bit-not 64 {x = spreadOf d c} (place d J 0 t) (lower-lt d (λ p. bit c (switchOf d p))) l,
+        bit-not 64 {x = spreadOf d c} (placeAt d J 0 t) (lower-lt d (λ p. bit c (switchOf d p))) l,
         bit-spread d c J t h l,
       )
 
-  bit-swaps-upper : place d J 1 t < 64 → bit (swapsOf d c) (place d J 1 t) ≡ 0
+  bit-swaps-upper : placeAt d J 1 t < 64 → bit (swapsOf d c) (placeAt d J 1 t) ≡ 0
   unfolding swapsOf
   bit-swaps-upper l =
-      bit-and (pairs d) ((2 ^ 64 - 1) - spreadOf d c) (place d J 1 t) ∙ omega (arith, bit-upper d (λ p. 1) J t h l)
+      bit-and (pairs d) ((2 ^ 64 - 1) - spreadOf d c) (placeAt d J 1 t) ∙ omega (arith, bit-upper d (λ p. 1) J t h l)
 
   module _ (x : ℕ) where
-    bit-differ : place d J 0 t < 64
-        → bit (differ d c x) (place d J 0 t) ≡ min ((bit x (place d J 0 t) + bit x (place d J 1 t)) % 2) (1 - bit c (J * d + t))
+    bit-differ : placeAt d J 0 t < 64
+        → bit (differ d c x) (placeAt d J 0 t) ≡ min ((bit x (placeAt d J 0 t) + bit x (placeAt d J 1 t)) % 2) (1 - bit c (J * d + t))
     bit-differ l =
-        let q : d + place d J 0 t ≡ place d J 1 t = omega arith in
-        bit-and (bitXor x (x / 2 ^ d)) (swapsOf d c) (place d J 0 t)
-        ∙ omega (arith, bit-xor x (x / 2 ^ d) (place d J 0 t), bit-shr x d (place d J 0 t), ap (bit x) q, bit-swaps l)
+        let q : d + placeAt d J 0 t ≡ placeAt d J 1 t = omega arith in
+        bit-and (bitXor x (x / 2 ^ d)) (swapsOf d c) (placeAt d J 0 t)
+        ∙ omega (arith, bit-xor x (x / 2 ^ d) (placeAt d J 0 t), bit-shr x d (placeAt d J 0 t), ap (bit x) q, bit-swaps l)
 
-    bit-differ-upper : place d J 1 t < 64 → bit (differ d c x) (place d J 1 t) ≡ 0
+    bit-differ-upper : placeAt d J 1 t < 64 → bit (differ d c x) (placeAt d J 1 t) ≡ 0
     bit-differ-upper l =
-        bit-and (bitXor x (x / 2 ^ d)) (swapsOf d c) (place d J 1 t) ∙ omega (arith, bit-swaps-upper l)
+        bit-and (bitXor x (x / 2 ^ d)) (swapsOf d c) (placeAt d J 1 t) ∙ omega (arith, bit-swaps-upper l)
 
 module _ (d c x : ℕ) where
   -- a lower place takes no bit of the shifted differences, an upper one that of its pair
-  shifted-lower : (J t : ℕ) → t < d → place d J 0 t < 64 → bit (differ d c x * 2 ^ d % 2 ^ 64) (place d J 0 t) ≡ 0
-  shifted-lower zero t h l = bit-shl-below (differ d c x) d (place d 0 0 t) l (omega arith)
+  shifted-lower : (J t : ℕ) → t < d → placeAt d J 0 t < 64 → bit (differ d c x * 2 ^ d % 2 ^ 64) (placeAt d J 0 t) ≡ 0
+  shifted-lower zero t h l = bit-shl-below (differ d c x) d (placeAt d 0 0 t) l (omega arith)
   shifted-lower (suc J) t h l =
-      let q : d + place d J 1 t ≡ place d (suc J) 0 t = omega arith in
+      let q : d + placeAt d J 1 t ≡ placeAt d (suc J) 0 t = omega arith in
       ap (bit (differ d c x * 2 ^ d % 2 ^ 64)) (sym q)
-      ∙ shl-above (differ d c x) d (place d J 1 t) (omega (arith, q))
+      ∙ shl-above (differ d c x) d (placeAt d J 1 t) (omega (arith, q))
       ∙ bit-differ-upper d c J t h x (omega (arith, q))
 
-  shifted-upper : (J t : ℕ) → t < d → place d J 1 t < 64
-      → bit (differ d c x * 2 ^ d % 2 ^ 64) (place d J 1 t) ≡ min ((bit x (place d J 0 t) + bit x (place d J 1 t)) % 2) (1 - bit c (J * d + t))
+  shifted-upper : (J t : ℕ) → t < d → placeAt d J 1 t < 64
+      → bit (differ d c x * 2 ^ d % 2 ^ 64) (placeAt d J 1 t) ≡ min ((bit x (placeAt d J 0 t) + bit x (placeAt d J 1 t)) % 2) (1 - bit c (J * d + t))
   shifted-upper J t h l =
-      let q : d + place d J 0 t ≡ place d J 1 t = omega arith in
+      let q : d + placeAt d J 0 t ≡ placeAt d J 1 t = omega arith in
       ap (bit (differ d c x * 2 ^ d % 2 ^ 64)) (sym q)
-      ∙ shl-above (differ d c x) d (place d J 0 t) (omega (arith, q))
+      ∙ shl-above (differ d c x) d (placeAt d J 0 t) (omega (arith, q))
       ∙ bit-differ d c J t h x (omega (arith, q))
 
   bit-exchanged : (p : ℕ) → bit (exchanged d c x) p ≡ (bit x p + bit (differ d c x) p + bit (differ d c x * 2 ^ d % 2 ^ 64) p) % 2
   bit-exchanged p =
       bit-xor (bitXor x (differ d c x)) (differ d c x * 2 ^ d % 2 ^ 64) p ∙ omega (arith, bit-xor x (differ d c x) p)
 
-  exchanged-at : (J e t : ℕ) → e < 2 → t < d → place d J e t < 64
-      → bit (exchanged d c x) (place d J e t) ≡ bit x (place d J ((e + bit c (J * d + t) + 1) % 2) t)
+  exchanged-at : (J e t : ℕ) → e < 2 → t < d → placeAt d J e t < 64
+      → bit (exchanged d c x) (placeAt d J e t) ≡ bit x (placeAt d J ((e + bit c (J * d + t) + 1) % 2) t)
   exchanged-at J zero t he h l = by-control (bit-cases c (J * d + t))
     where
       by-control : (bit c (J * d + t) ≡ 0) ⊎ (bit c (J * d + t) ≡ 1)
-          → bit (exchanged d c x) (place d J 0 t) ≡ bit x (place d J ((0 + bit c (J * d + t) + 1) % 2) t)
+          → bit (exchanged d c x) (placeAt d J 0 t) ≡ bit x (placeAt d J ((0 + bit c (J * d + t) + 1) % 2) t)
       by-control (inl z) =
-          rw (bit-exchanged (place d J 0 t), bit-differ d c J t h x l, shifted-lower J t h l, z)
-          (omega (arith, bit-lt x (place d J 0 t), bit-lt x (place d J 1 t)))
+          rw (bit-exchanged (placeAt d J 0 t), bit-differ d c J t h x l, shifted-lower J t h l, z)
+          (omega (arith, bit-lt x (placeAt d J 0 t), bit-lt x (placeAt d J 1 t)))
       by-control (inr o) =
-          rw (bit-exchanged (place d J 0 t), bit-differ d c J t h x l, shifted-lower J t h l, o)
-          (omega (arith, bit-lt x (place d J 0 t), bit-lt x (place d J 1 t)))
+          rw (bit-exchanged (placeAt d J 0 t), bit-differ d c J t h x l, shifted-lower J t h l, o)
+          (omega (arith, bit-lt x (placeAt d J 0 t), bit-lt x (placeAt d J 1 t)))
   exchanged-at J (suc zero) t he h l = by-control (bit-cases c (J * d + t))
     where
       by-control : (bit c (J * d + t) ≡ 0) ⊎ (bit c (J * d + t) ≡ 1)
-          → bit (exchanged d c x) (place d J 1 t) ≡ bit x (place d J ((1 + bit c (J * d + t) + 1) % 2) t)
+          → bit (exchanged d c x) (placeAt d J 1 t) ≡ bit x (placeAt d J ((1 + bit c (J * d + t) + 1) % 2) t)
       by-control (inl z) =
-          rw (bit-exchanged (place d J 1 t), bit-differ-upper d c J t h x l, shifted-upper J t h l, z)
-          (omega (arith, bit-lt x (place d J 0 t), bit-lt x (place d J 1 t)))
+          rw (bit-exchanged (placeAt d J 1 t), bit-differ-upper d c J t h x l, shifted-upper J t h l, z)
+          (omega (arith, bit-lt x (placeAt d J 0 t), bit-lt x (placeAt d J 1 t)))
       by-control (inr o) =
-          rw (bit-exchanged (place d J 1 t), bit-differ-upper d c J t h x l, shifted-upper J t h l, o)
-          (omega (arith, bit-lt x (place d J 0 t), bit-lt x (place d J 1 t)))
+          rw (bit-exchanged (placeAt d J 1 t), bit-differ-upper d c J t h x l, shifted-upper J t h l, o)
+          (omega (arith, bit-lt x (placeAt d J 0 t), bit-lt x (placeAt d J 1 t)))
   exchanged-at J (suc (suc e)) t he h l = absurd (omega arith)
 
   exchanged-lt : x < 2 ^ 64 → exchanged d c x < 2 ^ 64
@@ -160,9 +160,9 @@ spread-lt d c = lower-lt d (λ p. bit c (switchOf d p))
 pub spread-none : {c : ℕ} → c < 2 ^ 32 → spreadOf 32 c ≡ c
 spread-none {c} h = ext 64 (spread-lt 32 c) (omega arith) (on-places {d = 32} (omega arith) _ at)
   where
-    at : (J e t : ℕ) → e < 2 → t < 32 → place 32 J e t < 64 → bit (spreadOf 32 c) (place 32 J e t) ≡ bit c (place 32 J e t)
+    at : (J e t : ℕ) → e < 2 → t < 32 → placeAt 32 J e t < 64 → bit (spreadOf 32 c) (placeAt 32 J e t) ≡ bit c (placeAt 32 J e t)
     at zero zero t he ht l = bit-spread 32 c 0 t ht l
-    at zero (suc zero) t he ht l = bit-spread-upper 32 c 0 t ht l ∙ sym (bit-above {w = 32} (place 32 0 1 t) h (omega arith))
+    at zero (suc zero) t he ht l = bit-spread-upper 32 c 0 t ht l ∙ sym (bit-above {w = 32} (placeAt 32 0 1 t) h (omega arith))
     at zero (suc (suc e)) t he ht l = absurd (omega arith)
     at (suc J) e t he ht l = absurd (omega arith)
 
@@ -175,40 +175,40 @@ module _ (d c : ℕ) where
 
   -- an even block is the lower half of a wider one, and nothing moves onto it
 
-  own-even : (K t : ℕ) → t < d → place d (2 * K) 0 t < 64 → bit wider (place d (2 * K) 0 t) ≡ bit c (2 * K * d + t)
+  own-even : (K t : ℕ) → t < d → placeAt d (2 * K) 0 t < 64 → bit wider (placeAt d (2 * K) 0 t) ≡ bit c (2 * K * d + t)
   own-even K t h l =
-      let p : place (2 * d) K 0 t ≡ place d (2 * K) 0 t = omega arith in
+      let p : placeAt (2 * d) K 0 t ≡ placeAt d (2 * K) 0 t = omega arith in
       let s : K * (2 * d) + t ≡ 2 * K * d + t = omega arith in
       ap (bit wider) (sym p) ∙ bit-spread (2 * d) c K t (omega arith) (omega (arith, p)) ∙ ap (bit c) s
 
-  moved-even : (K t : ℕ) → t < d → place d (2 * K) 0 t < 64 → bit moved (place d (2 * K) 0 t) ≡ 0
-  moved-even zero t h l = bit-shl-below wider d (place d 0 0 t) l (omega arith)
+  moved-even : (K t : ℕ) → t < d → placeAt d (2 * K) 0 t < 64 → bit moved (placeAt d (2 * K) 0 t) ≡ 0
+  moved-even zero t h l = bit-shl-below wider d (placeAt d 0 0 t) l (omega arith)
   moved-even (suc K) t h l =
-      let q : d + place (2 * d) K 1 (d + t) ≡ place d (2 * suc K) 0 t = omega arith in
+      let q : d + placeAt (2 * d) K 1 (d + t) ≡ placeAt d (2 * suc K) 0 t = omega arith in
       ap (bit moved) (sym q)
-      ∙ shl-above wider d (place (2 * d) K 1 (d + t)) (omega (arith, q))
+      ∙ shl-above wider d (placeAt (2 * d) K 1 (d + t)) (omega (arith, q))
       ∙ bit-spread-upper (2 * d) c K (d + t) (omega arith) (omega (arith, q))
 
   -- an odd one is an upper half, and the offsets from d up of the lower half move onto it
 
-  own-odd : (K t : ℕ) → t < d → place d (2 * K + 1) 0 t < 64 → bit wider (place d (2 * K + 1) 0 t) ≡ 0
+  own-odd : (K t : ℕ) → t < d → placeAt d (2 * K + 1) 0 t < 64 → bit wider (placeAt d (2 * K + 1) 0 t) ≡ 0
   own-odd K t h l =
-      let p : place (2 * d) K 1 t ≡ place d (2 * K + 1) 0 t = omega arith in
+      let p : placeAt (2 * d) K 1 t ≡ placeAt d (2 * K + 1) 0 t = omega arith in
       ap (bit wider) (sym p) ∙ bit-spread-upper (2 * d) c K t (omega arith) (omega (arith, p))
 
-  moved-odd : (K t : ℕ) → t < d → place d (2 * K + 1) 0 t < 64 → bit moved (place d (2 * K + 1) 0 t) ≡ bit c ((2 * K + 1) * d + t)
+  moved-odd : (K t : ℕ) → t < d → placeAt d (2 * K + 1) 0 t < 64 → bit moved (placeAt d (2 * K + 1) 0 t) ≡ bit c ((2 * K + 1) * d + t)
   moved-odd K t h l =
-      let q : d + place (2 * d) K 0 (d + t) ≡ place d (2 * K + 1) 0 t = omega arith in
+      let q : d + placeAt (2 * d) K 0 (d + t) ≡ placeAt d (2 * K + 1) 0 t = omega arith in
       let s : K * (2 * d) + (d + t) ≡ (2 * K + 1) * d + t = omega arith in
       ap (bit moved) (sym q)
-      ∙ shl-above wider d (place (2 * d) K 0 (d + t)) (omega (arith, q))
+      ∙ shl-above wider d (placeAt (2 * d) K 0 (d + t)) (omega (arith, q))
       ∙ bit-spread (2 * d) c K (d + t) (omega arith) (omega (arith, q))
       ∙ ap (bit c) s
 
-  both : (J t : ℕ) → t < d → place d J 0 t < 64 → max (bit wider (place d J 0 t)) (bit moved (place d J 0 t)) ≡ bit c (J * d + t)
+  both : (J t : ℕ) → t < d → placeAt d J 0 t < 64 → max (bit wider (placeAt d J 0 t)) (bit moved (placeAt d J 0 t)) ≡ bit c (J * d + t)
   both J t h l = by-parity (digit (J % 2) (omega arith))
     where
-      by-parity : (J % 2 ≡ 0) ⊎ (J % 2 ≡ 1) → max (bit wider (place d J 0 t)) (bit moved (place d J 0 t)) ≡ bit c (J * d + t)
+      by-parity : (J % 2 ≡ 0) ⊎ (J % 2 ≡ 1) → max (bit wider (placeAt d J 0 t)) (bit moved (placeAt d J 0 t)) ≡ bit c (J * d + t)
       by-parity (inl z) =
           let e : J ≡ 2 * (J / 2) = omega arith in
           let k = rw e at l in
@@ -223,12 +223,12 @@ module _ (d c : ℕ) where
   spread-step pos =
       ext 64 (omega (arith, and-le-r (bitOr wider moved) (pairs d), lower-lt d (λ p. 1))) (spread-lt d c) (on-places pos _ at)
     where
-      at : (J e t : ℕ) → e < 2 → t < d → place d J e t < 64
-          → bit (bitAnd (bitOr wider moved) (pairs d)) (place d J e t) ≡ bit (spreadOf d c) (place d J e t)
+      at : (J e t : ℕ) → e < 2 → t < d → placeAt d J e t < 64
+          → bit (bitAnd (bitOr wider moved) (pairs d)) (placeAt d J e t) ≡ bit (spreadOf d c) (placeAt d J e t)
       at J zero t he h l =
-          bit-and (bitOr wider moved) (pairs d) (place d J 0 t)
-          ∙ omega (arith, bit-or wider moved (place d J 0 t), bit-lower d (λ p. 1) J t h l, both J t h l, bit-spread d c J t h l, bit-lt c (J * d + t))
+          bit-and (bitOr wider moved) (pairs d) (placeAt d J 0 t)
+          ∙ omega (arith, bit-or wider moved (placeAt d J 0 t), bit-lower d (λ p. 1) J t h l, both J t h l, bit-spread d c J t h l, bit-lt c (J * d + t))
       at J (suc zero) t he h l =
-          bit-and (bitOr wider moved) (pairs d) (place d J 1 t)
+          bit-and (bitOr wider moved) (pairs d) (placeAt d J 1 t)
           ∙ omega (arith, bit-upper d (λ p. 1) J t h l, bit-spread-upper d c J t h l)
       at J (suc (suc e)) t he h l = absurd (omega arith)

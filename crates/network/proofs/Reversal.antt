@@ -16,7 +16,7 @@ use Rattle.bits.proofs.Refusals.{log-width, log-le}
 use Rattle.network.specs.Stage.{source, falling, butterflyOf, inverseOf, reversedWord}
 use Rattle.network.specs.declared.Controls.{Controls}
 use Rattle.network.specs.Calls.{networkAnswer, controls}
-use Rattle.network.proofs.Index.{place, on-places, half-of, source-at}
+use Rattle.network.proofs.Index.{placeAt, on-places, half-of, source-at}
 use Rattle.network.proofs.Travel.{origin, bit-travel, falling-fit}
 use Rattle.network.proofs.Filling.{reverse-at}
 use Rattle.network.proofs.MaskRouting.{butterfly-lt, undo}
@@ -28,10 +28,10 @@ source-zero : {d : ℕ} → 0 < d → (p : ℕ) → source d 0 (p / d * d + (d -
 source-zero {d} pos = on-places pos _ at
   where
     at : (J e t : ℕ) → e < 2 → t < d
-        → source d 0 (place d J e t / d * d + (d - 1 - place d J e t % d))
-        ≡ place d J e t / (2 * d) * (2 * d) + (2 * d - 1 - place d J e t % (2 * d))
+        → source d 0 (placeAt d J e t / d * d + (d - 1 - placeAt d J e t % d))
+        ≡ placeAt d J e t / (2 * d) * (2 * d) + (2 * d - 1 - placeAt d J e t % (2 * d))
     at J e t he ht =
-        let whole : place d J e t ≡ J * (2 * d) + (e * d + t) = omega arith in
+        let whole : placeAt d J e t ≡ J * (2 * d) + (e * d + t) = omega arith in
         let l : e * d + t < 2 * d = digits-lt he ht in
         let s : (e + 0 + 1) % 2 + e ≡ 1 = omega arith in
         rw (half-of d J e t he ht, digits-mod (J * 2 + e) ht, source-at d J e (d - 1 - t) he (omega arith) 0, bit-of-zero (J * d + (d - 1 - t)), whole, digits-div J l, digits-mod J l)

@@ -14,7 +14,7 @@ use Rattle.bits.proofs.Word.{bit-ones, ext}
 use Rattle.network.specs.Stage.{source, stage, travel, falling, rising}
 use Rattle.network.specs.Calls.{six}
 use Rattle.network.specs.Word.{swapsOf, swapsAt, exchangesOf, allPass, byIndex, preparedOf, distances, travelOf}
-use Rattle.network.proofs.Index.{place, on-places, block-lt, source-at}
+use Rattle.network.proofs.Index.{placeAt, on-places, block-lt, source-at}
 use Rattle.network.proofs.Travel.{Fits, AllFit, bit-stage, stage-lt, travel-lt, travel-back, travel-below, travel-wider, falling-fit, rising-fit, distances-fit, length-falling, length-rising, length-distances, reverse-rising}
 use Rattle.network.proofs.PairsExchanged.{exchange-stage}
 use Rattle.network.proofs.Filling.{length-reversed}
@@ -37,12 +37,12 @@ stage-passes {d} f {x} h = ext 64 (stage-lt 64 d allPass x) h (λ p l. bit-stage
     keeps : (p : ℕ) → p < 64 → source d allPass p ≡ p
     keeps = on-places (f .positive) _ at
       where
-        at : (J e t : ℕ) → e < 2 → t < d → place d J e t < 64 → source d allPass (place d J e t) ≡ place d J e t
+        at : (J e t : ℕ) → e < 2 → t < d → placeAt d J e t < 64 → source d allPass (placeAt d J e t) ≡ placeAt d J e t
         at J e t he ht l =
             let k : J < f .blocks = block-lt d J e t (f .blocks) (rw (f .whole) at l) in
             let s : J * d + t < 32 = omega (arith, digits-lt k ht, f .whole) in
             let b : (e + bit allPass (J * d + t) + 1) % 2 ≡ e = omega (arith, bit-ones 32 (J * d + t) s) in
-            source-at d J e t he ht allPass ∙ ap (λ (n : ℕ). place d J n t) b
+            source-at d J e t he ht allPass ∙ ap (λ (n : ℕ). placeAt d J n t) b
 
 travel-passes : (ds : List ℕ) → AllFit 64 ds → (k : ℕ) {x : ℕ} → x < 2 ^ 64 → travel 64 ds (replicate k allPass) x ≡ x
 unfolding travel AllFit

@@ -39,7 +39,7 @@ networkAnswer f w k x =
     cond (eqb (networkRefusal w (k .stages) x) 0) (record { refusal = 0; word = f (logOf w) (k .stages) x })
     (record { refusal = networkRefusal w (k .stages) x; word = 0 })
 
--- the whole answer of a call that makes the inverse (true) or the butterfly ready. Refused is what a call on the word zero is, which is of every width:
+-- the whole answer of a call that prepares the inverse (true) or the butterfly. Refused is what a call on the word zero is, which is of every width:
 -- 1, the width; 3, the controls
 unfoldable pub prepareAnswer : Bool → ℕ → Controls → Prepared
 prepareAnswer b w k =

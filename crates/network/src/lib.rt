@@ -25,7 +25,7 @@ pub struct Carried {
     pub word: u64,
 }
 
-// A network made ready for many words: 0 and for each stage, from the widest, ones at the lower places of the pairs that swap; or the number
+// A prepared network, for many words: 0 and for each stage, from the widest, ones at the lower places of the pairs that swap; or the number
 // of the refusal and zeros.
 #[repr(C)]
 pub struct Prepared {
@@ -273,8 +273,8 @@ pub fn inverse(width: u32, controls: Controls, word: u64) -> Carried
     answer(refusal, through(true, refusal, width, stages, word))
 }
 
-// The controls of the inverse (rising) or of the butterfly made ready.
-fn ready(rising: bool, width: u32, controls: Controls) -> Prepared
+// The inverse (rising) or the butterfly, prepared.
+fn prepare_either(rising: bool, width: u32, controls: Controls) -> Prepared
     ensures { λ r. ⌜ r ≡ prepareAnswer rising width controls ⌝ }
 {
     let stages = controls.stages;
@@ -289,18 +289,18 @@ fn ready(rising: bool, width: u32, controls: Controls) -> Prepared
     Prepared { refusal: 0, swaps }
 }
 
-// The butterfly made ready: `butterfly_prepared` then sends any number of words through it.
+// The butterfly, prepared: `butterfly_prepared` then sends any number of words through it.
 pub fn prepare_butterfly(width: u32, controls: Controls) -> Prepared
     ensures { λ r. ⌜ r ≡ prepareAnswer false width controls ⌝ }
 {
-    ready(false, width, controls)
+    prepare_either(false, width, controls)
 }
 
-// The inverse made ready: `inverse_prepared` then sends any number of words through it.
+// The inverse, prepared: `inverse_prepared` then sends any number of words through it.
 pub fn prepare_inverse(width: u32, controls: Controls) -> Prepared
     ensures { λ r. ⌜ r ≡ prepareAnswer true width controls ⌝ }
 {
-    ready(true, width, controls)
+    prepare_either(true, width, controls)
 }
 
 // internal: a distance of 1 to 32. As many zeros turned left `count` steps: as many ones come in at the right and go out at the left.

@@ -20,7 +20,7 @@ pub bits-le : {k d : ℕ} → k ≤ 64 → d ≤ 2048 → k * d ≤ 131072
 bits-le {k} {d} h l = omega (arith, mul-le-mul-right d h)
 
 -- a call that is carried out is within the limits
-pub record Within (k a b own other : ℕ) : Type 0 where
+pub record InLimits (k a b own other : ℕ) : Type 0 where
   pub start : a ≤ b
   pub end : b ≤ own
   pub own-limit : own ≤ 2048
@@ -32,7 +32,7 @@ cond-pair true x y u v = refl
 cond-pair false x y u v = refl
 
 module _ (k a b own other : ℕ) where
-  pub within : fieldsRefusal k a b own other ≡ 0 → Within k a b own other
+  pub within : fieldsRefusal k a b own other ≡ 0 → InLimits k a b own other
   unfolding fieldsRefusal
   within e =
       let n = none-applies (fieldsConditions k a b own other) (omega arith) e in
@@ -47,7 +47,7 @@ module _ (k a b own other : ℕ) where
         room = ltb-false other (needed (k * (b - a))) (n .1 .0);
       }
 
-  pub by-none : Within k a b own other → 0 ≡ fieldsRefusal k a b own other
+  pub by-none : InLimits k a b own other → 0 ≡ fieldsRefusal k a b own other
   unfolding fieldsRefusal
   by-none w =
       simp (
@@ -94,7 +94,7 @@ module _ (k a b own other : ℕ) where
     unfolding fieldsAnswer
     answer-done z = rw (← e, eq-eqb n 0 z)
 
-    pub inside : n ≡ 0 → Within k a b own other
+    pub inside : n ≡ 0 → InLimits k a b own other
     inside z = within (sym e ∙ z)
 
     -- the count of bits fits
@@ -109,7 +109,7 @@ module _ (k a b own other : ℕ) where
     number : r .refusal ≡ fieldsRefusal k a b own other
     number = ap (λ (p : Packed). p .refusal) answered ∙ answer-refusal
 
-    pub limits : r .refusal ≡ 0 → Within k a b own other
+    pub limits : r .refusal ≡ 0 → InLimits k a b own other
     limits z = inside number z
 
     module _ (done out : List ℕ) where

@@ -15,7 +15,7 @@ use Rattle.gather.proofs.Theorems.{bit-scatter}
 use Rattle.pack.specs.declared.Cursor.{Cursor}
 use Rattle.pack.specs.Fields.{sizeOf, packedBit, fieldAt, scatteredAt}
 use Rattle.pack.specs.Cursor.{Awaits, Reads}
-use Rattle.pack.proofs.Stream.{ofBits-same, upper, join, shr-two}
+use Rattle.pack.proofs.Stream.{ofBits-same, upper, join-bits, shr-two}
 
 module _ (ps : List ℕ) where
   packed-mod-two : (n : ℕ) → packedBit ps n % 2 ≡ packedBit ps n
@@ -83,7 +83,7 @@ module _ (ps : List ℕ) where
       pub take-joined : Reads ps n size (bitOr (c .pending) (x * 2 ^ c .held % 2 ^ 64))
       unfolding here
       take-joined =
-          let j = ap₂ (λ (p y : ℕ). bitOr p (y * 2 ^ c .held % 2 ^ 64)) (h .bits) above ∙ join (c .held) 64 here (omega (arith, h .within)) in
+          let j = ap₂ (λ (p y : ℕ). bitOr p (y * 2 ^ c .held % 2 ^ 64)) (h .bits) above ∙ join-bits (c .held) 64 here (omega (arith, h .within)) in
           record {
             bits = λ i k.
                 ap (λ (y : ℕ). bit y i) j

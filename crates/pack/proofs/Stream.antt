@@ -41,8 +41,8 @@ shl-mod x k h =
 or-shl : (x p h k : ℕ) → p < 2 ^ h → bitOr p (x * 2 ^ h % 2 ^ (k + h)) ≡ (x * 2 ^ h + p) % 2 ^ (k + h)
 or-shl x p h k l = ap (bitOr p) (shl-mod x k h) ∙ or-shifted-r (x % 2 ^ k) h p l ∙ sym (shl-rest x p h l k)
 
-pub join : (h c : ℕ) (g : ℕ → ℕ) → h ≤ 64 → bitOr (ofBits h g) (ofBits c (λ i. g (h + i)) * 2 ^ h % 2 ^ 64) ≡ ofBits (h + c) g % 2 ^ 64
-join h c g u =
+pub join-bits : (h c : ℕ) (g : ℕ → ℕ) → h ≤ 64 → bitOr (ofBits h g) (ofBits c (λ i. g (h + i)) * 2 ^ h % 2 ^ 64) ≡ ofBits (h + c) g % 2 ^ 64
+join-bits h c g u =
     let e : 64 - h + h ≡ 64 = omega arith in
     rw e at (or-shl (ofBits c (λ i. g (h + i))) (ofBits h g) h (64 - h) (ofBits-lt h g)) ∙ ap (λ (n : ℕ). n % 2 ^ 64) (sym (ofBits-add h c g))
 
@@ -74,7 +74,7 @@ module _ (c : Cursor) (size field : ℕ) (s : ℕ → ℕ) (n : ℕ) (old : List
 
     joined : bitOr (c .pending) (field * 2 ^ c .held % 2 ^ 64) ≡ ofBits (c .held + size) here % 2 ^ 64
     unfolding here
-    joined = ap₂ (λ (p x : ℕ). bitOr p (x * 2 ^ c .held % 2 ^ 64)) (h .bits) above ∙ (join (c .held) size here (omega (arith, h .within)))
+    joined = ap₂ (λ (p x : ℕ). bitOr p (x * 2 ^ c .held % 2 ^ 64)) (h .bits) above ∙ (join-bits (c .held) size here (omega (arith, h .within)))
 
     -- it stays in the word begun
     pub put-stays : c .held + size < 64

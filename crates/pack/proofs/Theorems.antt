@@ -21,7 +21,7 @@ use Rattle.pack.proofs.FilledLists.{length-upTo, getD-upTo, upTo-same, 
 use Rattle.pack.proofs.Stream.{ofBits-same}
 use Rattle.pack.proofs.Reading.{bit-packed}
 use Rattle.pack.proofs.Turns.{stream-word, stream-end, next-field}
-use Rattle.pack.proofs.FieldAnswers.{Within, carried-out, limits, by-none, answer-done, answer-refusal, fields-lowest, answer-bits, length-cut, cut-room}
+use Rattle.pack.proofs.FieldAnswers.{InLimits, carried-out, limits, by-none, answer-done, answer-refusal, fields-lowest, answer-bits, length-cut, cut-room}
 
 -- Demand 1, of each call, with the words lent to it. Bits answered: as many as the mask marks, for each word from a up to b.
 module _ (m : ℕ) (first : List ℕ) (a b : ℕ) (out : List ℕ) where
@@ -139,7 +139,7 @@ unpack-pack m hm a b ws h l out ys =
 
 -- The same of the calls, with the answers: if pack is carried out, unpack of what it left, into words that b and the limit allow, is carried out too.
 module _ (m : ℕ) (hm : m < 2 ^ 64) (ws out : List ℕ) (a b : ℕ) (h : packAnswer m ws a b out .refusal ≡ 0) where
-  allowed : Within (sizeOf m) a b (length ws) (length out)
+  allowed : InLimits (sizeOf m) a b (length ws) (length out)
   allowed = limits (sizeOf m) a b (length ws) (length out) refl refl h
 
   packed-is : packedOut m ws a b out ≡ packInto m (cut a b ws) out

@@ -1,6 +1,6 @@
 -- The test that a list names every place once. Assumes nothing.
 use mathlib.Core.Path.{_≡_, refl, sym, _∙_, ap, ap₂}
-use mathlib.Core.Bool.{Bool, true, false, not, cond, _&&_, false≢true, true≢false}
+use mathlib.Core.Bool.{Bool, true, false, not, cond, _&&_, true≢false}
 use mathlib.Core.List.{List, [], _∷_}
 use Prim.Native.Nat.{ℕ, zero, suc, _+_, _*_, _/_, _%_, _^_, _<_, _≤_, max}
 use native.Mathlib.Omega.{arith}
@@ -13,35 +13,32 @@ use lib.ListN.{length, getD, drop}
 use lib.Seq.{drop-cons, drop-length}
 use borrow.Author.Tests.{ltb-true, lt-ltb, le-ltb, eq-eqb, ne-eqb}
 use Rattle.bits.specs.Bit.{bit}
+use Rattle.bits.proofs.Refusals.{both}
 use Rattle.bits.proofs.Word.{bit-lt, bit-or, bit-of-zero, bit-pow, bit-pow-own}
 use Rattle.network.proofs.StageBlocks.{shl-one}
 use Rattle.routing.specs.Lists.{ListPermutes}
 use Rattle.permute.specs.Permutation.{absent, namesOnce}
-
-and-true : (a b : Bool) → (a && b) ≡ true → (a ≡ true) × (b ≡ true)
-and-true true b e = (refl, e)
-and-true false b e = absurd (false≢true e)
 
 -- such a list is a permutation
 
 absent-not : (x : ℕ) (ys : List ℕ) → absent x ys ≡ true → (p : ℕ) → p < length ys → x ≡ getD ys p 0 → ⊥
 unfolding absent
 absent-not x [] e p h q = not-suc-le-zero h
-absent-not x (y ∷ ys) e zero h q = true≢false (sym (and-true (not (eqb x y)) (absent x ys) e .0) ∙ ap not (eq-eqb x y q))
-absent-not x (y ∷ ys) e (suc p) h q = absent-not x ys (and-true (not (eqb x y)) (absent x ys) e .1) p (omega arith) q
+absent-not x (y ∷ ys) e zero h q = true≢false (sym (both (not (eqb x y)) (absent x ys) e .0) ∙ ap not (eq-eqb x y q))
+absent-not x (y ∷ ys) e (suc p) h q = absent-not x ys (both (not (eqb x y)) (absent x ys) e .1) p (omega arith) q
 
 module _ (w x : ℕ) (xs : List ℕ) (e : namesOnce w (x ∷ xs) ≡ true) where
   head-small : x < w
   unfolding namesOnce
-  head-small = ltb-true x w (and-true (ltb x w) (absent x xs) (and-true (ltb x w && absent x xs) (namesOnce w xs) e .0) .0)
+  head-small = ltb-true x w (both (ltb x w) (absent x xs) (both (ltb x w && absent x xs) (namesOnce w xs) e .0) .0)
 
   head-absent : absent x xs ≡ true
   unfolding namesOnce
-  head-absent = and-true (ltb x w) (absent x xs) (and-true (ltb x w && absent x xs) (namesOnce w xs) e .0) .1
+  head-absent = both (ltb x w) (absent x xs) (both (ltb x w && absent x xs) (namesOnce w xs) e .0) .1
 
   tail-once : namesOnce w xs ≡ true
   unfolding namesOnce
-  tail-once = and-true (ltb x w && absent x xs) (namesOnce w xs) e .1
+  tail-once = both (ltb x w && absent x xs) (namesOnce w xs) e .1
 
 names-small : (w : ℕ) (es : List ℕ) → namesOnce w es ≡ true → (p : ℕ) → p < length es → getD es p 0 < w
 names-small w [] e p h = absurd (not-suc-le-zero h)

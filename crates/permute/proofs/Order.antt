@@ -9,50 +9,32 @@ use lib.ListN.{length, getD}
 use Rattle.routing.specs.Stages.{Stage, Butterfly, Inverse, exponent, Agree}
 use Rattle.routing.specs.Stages as place
 use Rattle.routing.specs.Lists.{Words, ListPermutes, controlIn, butterflyFrom, inverseFrom, fromWords, controlsOf, firstWords}
+use Rattle.routing.proofs.Later.{position, stage-at, position-small, PositionAt, position-stage}
 use Rattle.routing.proofs.StageWords.{words-cong, first-words}
 use Rattle.permute.specs.First.{travelled, control, UsesBoth, Before, Later, First}
 use Rattle.permute.proofs.Realised.{brings-realises, realises-brings}
 use Rattle.permute.proofs.FirstWords.{travelled-butterfly, travelled-inverse, control-bit, words-used, words-back}
 
--- the number of a stage in the direction of travel
-abbrev number : ℕ → Stage → ℕ
-number L (Butterfly e) = L - suc e
-number L (Inverse e) = L + e
+-- positions in the direction of travel
 
 module _ (L : ℕ) (k : Words) (b : length (k .butterfly) ≡ L) where
-  control-at : (c : Stage) (s : ℕ) → exponent c < L → fromWords L k c s ≡ controlIn (getD (travelled k) (number L c) 0) s
+  control-at : (c : Stage) (s : ℕ) → exponent c < L → fromWords L k c s ≡ controlIn (getD (travelled k) (position L c) 0) s
   unfolding butterflyFrom inverseFrom
   control-at (Butterfly e) s h = ap (λ (x : ℕ). controlIn x s) (sym (travelled-butterfly L k b (L - suc e) (omega arith)))
   control-at (Inverse e) s h = ap (λ (x : ℕ). controlIn x s) (sym (travelled-inverse L k b e))
 
--- each number below 2L is a stage's, and the order is the same
-record At (L i : ℕ) : Type 0 where
-  stage : Stage
-  inside : exponent stage < L
-  is : number L stage ≡ i
-
-stage-at : (L i : ℕ) → i < L + L → At L i
-stage-at L i h = by-cases (decLt i L)
-  where
-    by-cases : Dec (i < L) → At L i
-    by-cases (yes l) = record { stage = Butterfly (L - suc i); inside = omega arith; is = omega arith }
-    by-cases (no n) = record { stage = Inverse (i - L); inside = omega arith; is = omega arith }
-
-number-lt : (L : ℕ) (c : Stage) → exponent c < L → number L c < L + L
-number-lt L (Butterfly e) h = omega arith
-number-lt L (Inverse e) h = omega arith
-
-earlier : (L : ℕ) (c d : Stage) → exponent c < L → exponent d < L → number L c < number L d → place.Earlier c d
+-- the order is the same
+earlier : (L : ℕ) (c d : Stage) → exponent c < L → exponent d < L → position L c < position L d → place.Earlier c d
 earlier L (Butterfly a) (Butterfly b) h l n = omega arith
 earlier L (Butterfly a) (Inverse b) h l n = tt
 earlier L (Inverse a) (Butterfly b) h l n = absurd (omega arith)
 earlier L (Inverse a) (Inverse b) h l n = omega arith
 
-number-one : (L : ℕ) (c d : Stage) → exponent c < L → exponent d < L → number L c ≡ number L d → c ≡ d
-number-one L (Butterfly a) (Butterfly b) h l n = let e : a ≡ b = omega arith in ap Butterfly e
-number-one L (Butterfly a) (Inverse b) h l n = absurd (omega arith)
-number-one L (Inverse a) (Butterfly b) h l n = absurd (omega arith)
-number-one L (Inverse a) (Inverse b) h l n = let e : a ≡ b = omega arith in ap Inverse e
+position-one : (L : ℕ) (c d : Stage) → exponent c < L → exponent d < L → position L c ≡ position L d → c ≡ d
+position-one L (Butterfly a) (Butterfly b) h l n = let e : a ≡ b = omega arith in ap Butterfly e
+position-one L (Butterfly a) (Inverse b) h l n = absurd (omega arith)
+position-one L (Inverse a) (Butterfly b) h l n = absurd (omega arith)
+position-one L (Inverse a) (Inverse b) h l n = let e : a ≡ b = omega arith in ap Inverse e
 
 switch-lt : (L s : ℕ) {e : ℕ} → e < L → s + s < 2 ^ L → s < 2 ^ L / 2
 switch-lt zero s h l = absurd (omega arith)
@@ -64,27 +46,28 @@ module _ (L : ℕ) (k l : Words) (u : UsesBoth L k) (v : UsesBoth L l) where
       let c = r .at-stage in
       let h = r .inside .at-stage in
       record {
-        stage = number L c;
+        stage = position L c;
         switch = r .switch;
-        inStages = number-lt L c h;
+        inStages = position-small L c h;
         inSwitches = switch-lt L (r .switch) h (r .inside .switch);
         before = λ i s hi hs q. agrees i s hi hs q;
-        passes = control-bit (getD (travelled k) (number L c) 0) (r .switch) (sym (control-at L k (u .0 .0) c (r .switch) h) ∙ r .passes);
-        swaps = control-bit (getD (travelled l) (number L c) 0) (r .switch) (sym (control-at L l (v .0 .0) c (r .switch) h) ∙ r .swaps);
+        passes = control-bit (getD (travelled k) (position L c) 0) (r .switch) (sym (control-at L k (u .0 .0) c (r .switch) h) ∙ r .passes);
+        swaps = control-bit (getD (travelled l) (position L c) 0) (r .switch) (sym (control-at L l (v .0 .0) c (r .switch) h) ∙ r .swaps);
       }
     where
-      before : (i s : ℕ) (d : At L i) → Before i s (number L (r .at-stage)) (r .switch) → place.SwitchBefore (d .stage) s (r .at-stage) (r .switch)
-      before i s d (inl q) = inl (earlier L (d .stage) (r .at-stage) (d .inside) (r .inside .at-stage) (omega (arith, d .is)))
-      before i s d (inr q) = inr (number-one L (d .stage) (r .at-stage) (d .inside) (r .inside .at-stage) (d .is ∙ q .0), q .1)
+      before : (i s : ℕ) {c : Stage} → PositionAt L i c → Before i s (position L (r .at-stage)) (r .switch) → place.SwitchBefore c s (r .at-stage) (r .switch)
+      before i s {c} d (inl q) = inl (earlier L c (r .at-stage) (d .inside) (r .inside .at-stage) (omega (arith, d .is)))
+      before i s {c} d (inr q) = inr (position-one L c (r .at-stage) (d .inside) (r .inside .at-stage) (d .is ∙ q .0), q .1)
 
-      agrees : (i s : ℕ) → i < L + L → s < 2 ^ L / 2 → Before i s (number L (r .at-stage)) (r .switch) → control k i s ≡ control l i s
+      agrees : (i s : ℕ) → i < L + L → s < 2 ^ L / 2 → Before i s (position L (r .at-stage)) (r .switch) → control k i s ≡ control l i s
       agrees i s hi hs q =
-          let d = stage-at L i hi in
-          let e = r .before (d .stage) s (record { at-stage = d .inside; switch = omega arith }) (before i s d q) in
+          let c = stage-at L i in
+          let d = position-stage L i hi in
+          let e = r .before c s (record { at-stage = d .inside; switch = omega arith }) (before i s d q) in
           rw (d .is) at
-          (control-bit (getD (travelled k) (number L (d .stage)) 0) s
-          (sym (control-at L k (u .0 .0) (d .stage) s (d .inside)) ∙ e ∙ control-at L l (v .0 .0) (d .stage) s (d .inside))
-          ∙ sym (control-bit (getD (travelled l) (number L (d .stage)) 0) s refl))
+          (control-bit (getD (travelled k) (position L c) 0) s
+          (sym (control-at L k (u .0 .0) c s (d .inside)) ∙ e ∙ control-at L l (v .0 .0) c s (d .inside))
+          ∙ sym (control-bit (getD (travelled l) (position L c) 0) s refl))
 
 -- Demand 3's second sentence, over every exponent: a permutation gets the first controls.
 pub first-controls : (L : ℕ) (entries : List ℕ) → ListPermutes (2 ^ L) entries → First L (firstWords L entries) entries

@@ -25,7 +25,7 @@ UsesBoth L k = Uses L (k .butterfly) × Uses L (k .inverse)
 abbrev pub Before : ℕ → ℕ → ℕ → ℕ → Type 0
 Before i s j t = (i < j) ⊎ ((i ≡ j) × (s < t))
 
--- "Two sets are compared at the first switch where they differ: the set that passes there is the earlier one, the other comes later": l comes later than k
+-- "Two sets are compared at the first switch where they differ, .. : the set that passes there is the earlier one, the other comes later": l comes later than k
 pub record Later (L : ℕ) (k l : Words) : Type 0 where
   pub stage : ℕ
   pub switch : ℕ

@@ -15,7 +15,7 @@ unfoldable pub absent : ℕ → List ℕ → Bool
 absent x [] = true
 absent x (y ∷ ys) = not (eqb x y) && absent x ys
 
--- every entry is below w, and none is repeated
+-- every entry is below w, and none is repeated; else 5, "order entry w or above, or repeated"
 unfoldable pub namesOnce : ℕ → List ℕ → Bool
 namesOnce w [] = true
 namesOnce w (x ∷ xs) = ltb x w && absent x xs && namesOnce w xs

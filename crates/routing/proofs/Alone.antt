@@ -17,7 +17,7 @@ use Rattle.routing.proofs.Stage.{pair, side-low}
 use Rattle.routing.proofs.PlaceNumbers.{num-lt, place-num, at-tab-all}
 use Rattle.routing.proofs.Halves.{Keeps, halfNet, between-permutation, sides-keep, part-permutation, realises-sides, realises-half}
 use Rattle.routing.proofs.Through.{within, butterfly-inverse}
-use Rattle.routing.proofs.Flat.{Reads, butterfly-source, reads-flat, treeOf, reads-tree, reads-same}
+use Rattle.routing.proofs.Flat.{ReadsTree, butterfly-source, reads-flat, treeOf, reads-tree, reads-same}
 use Rattle.routing.proofs.FirstControls.{on-places}
 
 -- an inverse that passes everywhere moves nothing
@@ -118,9 +118,9 @@ reads-forced :
     (n : ℕ) (m : Maps (Place n))
     → IsPermutation m
     → (c : ℕ → ℕ → Bool) (F : ControlTree n)
-    → Reads n c F
+    → ReadsTree n c F
     → NetRealises n (lone n F) m
-    → Reads n c (forced n m)
+    → ReadsTree n c (forced n m)
 reads-forced zero m perm c F r real = tt
 reads-forced (suc n) m perm c F r real =
     record {
@@ -129,7 +129,7 @@ reads-forced (suc n) m perm c F r real =
           ∙ ap (λ (k : Place n → Bool). k q)
           (forced-outer n F m perm real ∙ sym (forced-first n m));
       halves = λ h.
-          subst (Reads n (within n h c)) (sym (forced-half n m h))
+          subst (ReadsTree n (within n h c)) (sym (forced-half n m h))
           (reads-forced n (part n (rest n F m perm real) h) (rest-part n F m perm real h) (within n h c)
           (half n F h) (r .halves h) (rest-half n F m perm real h));
     }

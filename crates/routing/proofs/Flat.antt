@@ -15,18 +15,18 @@ use Rattle.routing.proofs.PlaceNumbers.{num-lt, num-place, weight-le, p
 use Rattle.routing.proofs.Through.{within, butterfly-within, through-top, inverse-butterfly}
 
 -- c, by exponents and switch numbers, has the controls of F
-abbrev pub Reads : (n : ℕ) → (ℕ → ℕ → Bool) → ControlTree n → Type 0
-Reads zero c F = Unit {0}
-Reads (suc n) c F =
+abbrev pub ReadsTree : (n : ℕ) → (ℕ → ℕ → Bool) → ControlTree n → Type 0
+ReadsTree zero c F = Unit {0}
+ReadsTree (suc n) c F =
     record {
       outer : (q : Place n) → c n (num n q) ≡ at n (F .outer) q;
-      halves : (h : Bool) → Reads n (within n h c) (half n F h);
+      halves : (h : Bool) → ReadsTree n (within n h c) (half n F h);
     }
 
 -- so they move bits alike
 pub butterfly-source :
     (n : ℕ) (c : ℕ → ℕ → Bool) (F : ControlTree n)
-    → Reads n c F
+    → ReadsTree n c F
     → (p : Place n)
     → butterfly n c (num n p) ≡ num n (butterflySource n F p)
 unfolding num butterfly butterflySource
@@ -48,7 +48,7 @@ butterfly-inverse-place (suc n) F p =
     ∙ stage-stage (at n (F .outer)) p
 
 pub inverse-source :
-    (n : ℕ) (c : ℕ → ℕ → Bool) (F : ControlTree n) → Reads n c F → (p : Place n) → inverse n c (num n p) ≡ num n (inverseSource n F p)
+    (n : ℕ) (c : ℕ → ℕ → Bool) (F : ControlTree n) → ReadsTree n c F → (p : Place n) → inverse n c (num n p) ≡ num n (inverseSource n F p)
 inverse-source n c F r p =
     let q = inverseSource n F p in
     ap (inverse n c) (ap (num n) (sym (butterfly-inverse-place n F p)) ∙ sym (butterfly-source n c F r q))
@@ -65,7 +65,7 @@ agree-within zero h c d agree e s i = absurd (omega (arith, i .at-stage))
 agree-within (suc k) h c d agree e s i = agree e (weight h k + s) (within-range k h e s i)
 
 pub reads-cong :
-    (n : ℕ) (c d : ℕ → ℕ → Bool) (F : ControlTree n) → Same n c d → Reads n d F → Reads n c F
+    (n : ℕ) (c d : ℕ → ℕ → Bool) (F : ControlTree n) → Same n c d → ReadsTree n d F → ReadsTree n c F
 reads-cong zero c d F agree r = tt
 reads-cong (suc n) c d F agree r =
     record {
@@ -96,7 +96,7 @@ control-inner k F h e s i =
     (ne-eqb e (suc k) (λ q. absurd (omega (arith, i .at-stage))))
 
 -- the stages of a network by halves, read over the whole width
-pub reads-flat : (n : ℕ) (F : ControlTree n) → Reads n (flat n F) F
+pub reads-flat : (n : ℕ) (F : ControlTree n) → ReadsTree n (flat n F) F
 unfolding flat
 reads-flat zero F = tt
 reads-flat (suc n) F =
@@ -121,7 +121,7 @@ treeOf (suc n) c =
       upper = treeOf n (within n true c);
     }
 
-pub reads-tree : (n : ℕ) (c : ℕ → ℕ → Bool) → Reads n c (treeOf n c)
+pub reads-tree : (n : ℕ) (c : ℕ → ℕ → Bool) → ReadsTree n c (treeOf n c)
 unfolding treeOf half
 reads-tree zero c = tt
 reads-tree (suc n) c =
@@ -132,9 +132,9 @@ reads-tree (suc n) c =
   where
     go :
         (h : Bool)
-        → Reads n (within n false c) (treeOf n (within n false c))
-        → Reads n (within n true c) (treeOf n (within n true c))
-        → Reads n (within n h c) (cond h (treeOf n (within n true c)) (treeOf n (within n false c)))
+        → ReadsTree n (within n false c) (treeOf n (within n false c))
+        → ReadsTree n (within n true c) (treeOf n (within n true c))
+        → ReadsTree n (within n h c) (cond h (treeOf n (within n true c)) (treeOf n (within n false c)))
     go false l u = l
     go true l u = u
 
@@ -151,7 +151,7 @@ reads-inner zero c d halves e l q = absurd (omega arith)
 reads-inner (suc k) c d halves e l q =
     halves (q .0) e (num k (q .1)) (record { at-stage = l; switch = omega (arith, num-lt k (q .1)) })
 
-pub reads-same : (n : ℕ) (c d : ℕ → ℕ → Bool) (F : ControlTree n) → Reads n c F → Reads n d F → Same n c d
+pub reads-same : (n : ℕ) (c d : ℕ → ℕ → Bool) (F : ControlTree n) → ReadsTree n c F → ReadsTree n d F → Same n c d
 reads-same zero c d F rc rd e s i = absurd (omega (arith, i .at-stage))
 reads-same (suc n) c d F rc rd e s i =
     subst (λ (y : ℕ). c e y ≡ d e y) (num-place n s (omega (arith, i .switch)))
@@ -174,7 +174,7 @@ module _
     (n : ℕ)
     (move : (ℕ → ℕ → Bool) → ℕ → ℕ)
     (source : ControlTree n → Place n → Place n)
-    (is : (c : ℕ → ℕ → Bool) (F : ControlTree n) → Reads n c F → (p : Place n) → move c (num n p) ≡ num n (source F p))
+    (is : (c : ℕ → ℕ → Bool) (F : ControlTree n) → ReadsTree n c F → (p : Place n) → move c (num n p) ≡ num n (source F p))
   where
     move-cong : (c d : ℕ → ℕ → Bool) → Same n c d → (p : ℕ) → p < 2 ^ n → move c p ≡ move d p
     move-cong c d same p l =

@@ -13,20 +13,18 @@ use Rattle.routing.specs.Stages.{Stage, Butterfly, Inverse, exponent, St
 use Rattle.routing.proofs.Finite.{Least, least-or-none}
 
 -- the position of a stage in the direction of travel, and the stage at a position
-position : ℕ → Stage → ℕ
+abbrev pub position : ℕ → Stage → ℕ
 position n (Butterfly e) = n - suc e
 position n (Inverse e) = n + e
 
-stage-at : ℕ → ℕ → Stage
+abbrev pub stage-at : ℕ → ℕ → Stage
 stage-at n r = cond (ltb r n) (Butterfly (n - suc r)) (Inverse (r - n))
 
-position-small : (n : ℕ) (c : Stage) → exponent c < n → position n c < n + n
-unfolding position
+pub position-small : (n : ℕ) (c : Stage) → exponent c < n → position n c < n + n
 position-small n (Butterfly e) l = omega arith
 position-small n (Inverse e) l = omega arith
 
 stage-position : (n : ℕ) (c : Stage) → exponent c < n → stage-at n (position n c) ≡ c
-unfolding position stage-at
 stage-position n (Butterfly e) l =
     let x : n - suc (n - suc e) ≡ e = omega arith in
     ap (λ (b : Bool). cond b (Butterfly (n - suc (n - suc e))) (Inverse (n - suc e - n))) (lt-ltb (n - suc e) n (omega arith))
@@ -37,12 +35,11 @@ stage-position n (Inverse e) l =
     ∙ ap Inverse x
 
 -- r is the position of the stage at r, which is in range
-record PositionAt (n r : ℕ) (c : Stage) : Type 0 where
-  is : position n c ≡ r
-  inside : exponent c < n
+pub record PositionAt (n r : ℕ) (c : Stage) : Type 0 where
+  pub is : position n c ≡ r
+  pub inside : exponent c < n
 
-position-stage : (n r : ℕ) → r < n + n → PositionAt n r (stage-at n r)
-unfolding position stage-at
+pub position-stage : (n r : ℕ) → r < n + n → PositionAt n r (stage-at n r)
 position-stage n r l = go (ltb r n) refl
   where
     go : (b : Bool) → ltb r n ≡ b → PositionAt n r (cond b (Butterfly (n - suc r)) (Inverse (r - n)))
@@ -50,7 +47,6 @@ position-stage n r l = go (ltb r n) refl
     go false e = let h = ltb-false r n e in record { is = omega arith; inside = omega arith }
 
 earlier-position : (n : ℕ) (c d : Stage) → exponent c < n → exponent d < n → Earlier c d → position n c < position n d
-unfolding position
 earlier-position n (Butterfly a) (Butterfly b) h k e = omega arith
 earlier-position n (Butterfly a) (Inverse b) h k e = omega arith
 earlier-position n (Inverse a) (Butterfly b) h k e = absurd e

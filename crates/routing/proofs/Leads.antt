@@ -15,11 +15,11 @@ use Rattle.routing.proofs.First.{first-leads}
 use Rattle.routing.proofs.PlaceNumbers.{num-lt, num-place, numbered}
 use Rattle.routing.proofs.Halves.{halfNet, realises-sides, realises-half, outerFirst, left, first-first, first-last, first-half, left-part}
 use Rattle.routing.proofs.Through.{within}
-use Rattle.routing.proofs.Flat.{Reads, within-range}
+use Rattle.routing.proofs.Flat.{ReadsTree, within-range}
 
 pub record ReadsNet (n : ℕ) (C : StageControls) (N : Net n) : Type 0 where
-  pub butterfly : Reads n (λ e. C (Butterfly e)) (N .butterfly)
-  pub inverse : Reads n (λ e. C (Inverse e)) (N .inverse)
+  pub butterfly : ReadsTree n (λ e. C (Butterfly e)) (N .butterfly)
+  pub inverse : ReadsTree n (λ e. C (Inverse e)) (N .inverse)
 
 -- the halves are read by the halves
 reads-half :

@@ -15,6 +15,14 @@ use Rattle.routing.specs.Stages.{switchAt, partnerAt, through, butterfly
 use Rattle.routing.proofs.Stage.{xor-xor}
 use Rattle.routing.proofs.PlaceNumbers.{num-lt, weight-le, weight-rest, split-top}
 
+-- a place in the upper half of its block
+pub odd-above : (e x : ℕ) → (x / 2 ^ e % 2 ≡ 0 → ⊥) → 2 ^ e ≤ x
+odd-above e x odd = go (decLt x (2 ^ e))
+  where
+    go : Dec (x < 2 ^ e) → 2 ^ e ≤ x
+    go (yes l) = absurd (odd (ap (λ (y : ℕ). y % 2) (div-eq-of-lt l)))
+    go (no n) = omega arith
+
 -- H blocks of twice the distance to the right: everything moves by them
 module _ (e H x : ℕ) where
   block : H * 2 ^ suc e ≡ H * 2 * 2 ^ e
@@ -32,13 +40,6 @@ module _ (e H x : ℕ) where
       let q : (H * 2 ^ suc e + x) / 2 ^ e ≡ H * 2 + x / 2 ^ e = rw block (mul-add-div-right (pow-pos e) (H * 2) x) in
       rw q (omega arith)
 
-  odd-above : (x / 2 ^ e % 2 ≡ 0 → ⊥) → 2 ^ e ≤ x
-  odd-above odd = go (decLt x (2 ^ e))
-    where
-      go : Dec (x < 2 ^ e) → 2 ^ e ≤ x
-      go (yes l) = absurd (odd (ap (λ (y : ℕ). y % 2) (div-eq-of-lt l)))
-      go (no n) = omega arith
-
   partner-offset : partnerAt e (H * 2 ^ suc e + x) ≡ H * 2 ^ suc e + partnerAt e x
   unfolding partnerAt
   partner-offset =
@@ -53,7 +54,7 @@ module _ (e H x : ℕ) where
           → cond b (H * 2 ^ suc e + x + 2 ^ e) (H * 2 ^ suc e + x - 2 ^ e)
           ≡ H * 2 ^ suc e + cond b (x + 2 ^ e) (x - 2 ^ e)
       go true t = omega arith
-      go false t = let a = odd-above (eqb-false (x / 2 ^ e % 2) 0 t) in omega arith
+      go false t = let a = odd-above e x (eqb-false (x / 2 ^ e % 2) 0 t) in omega arith
 
   through-offset : (c : ℕ → Bool) → through e c (H * 2 ^ suc e + x) ≡ H * 2 ^ suc e + through e (λ s. c (H * 2 ^ e + s)) x
   unfolding through

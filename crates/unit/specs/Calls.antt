@@ -20,7 +20,7 @@ operated a k = record { answer = a; bank = k }
 abbrev pub written : ℕ → Bank → Written
 written r k = record { refusal = r; bank = k }
 
--- One operation: its cycles and the bank after it; refused, its number, zero cycles and the bank as it was.
+-- "One operation alone answers its cycles." Its cycles and the bank after it; refused, its number, zero cycles and the bank as it was.
 unfoldable pub operateOf : Bank → ℕ → ℕ → ℕ → ℕ → Operated
 operateOf k kind r1 r2 r3 =
     cond (eqb (operationRefusal kind r1 r2 r3) 0)

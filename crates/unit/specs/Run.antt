@@ -37,7 +37,7 @@ unfoldable pub stepsOf : Bank → List Operation → Bank
 stepsOf k [] = k
 stepsOf k (o ∷ os) = stepsOf (stepBy k o) os
 
--- the sum of the table's figures
+-- "Cycles used are the sum of the table's figures for the operations run."
 unfoldable pub sumOf : List Operation → ℕ
 sumOf [] = 0
 sumOf (o ∷ os) = cyclesOf (o .0) + sumOf os

@@ -57,8 +57,8 @@ fn any_six_words() {
     assert!(count >= 100_000);
 }
 
-/// "Of any other word the bits below w go likewise, and the others stay at bit w
-/// and above."
+/// "Of any other word the bits below w go likewise." The others stay at bit w and
+/// above, which the header does not say.
 #[test]
 fn ones_above_the_width_stay_there_and_change_nothing_below() {
     let mut random = Random::default();

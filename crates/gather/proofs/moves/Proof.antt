@@ -6,12 +6,12 @@ use native.Mathlib.Omega.{arith}
 use borrow.Author.Needs.{needs}
 use lib.ListN.{length}
 use Rattle.gather.specs.Moves.{Moves}
-use Rattle.gather.proofs.Gaps.{Halved, halved-none, halved-next, moves-none, moves-next}
+use Rattle.gather.proofs.Gaps.{HalvesGaps, halved-none, halved-next, moves-none, moves-next}
 use Rattle.gather.proofs.moves.Statement.{statement}
 use Rattle.gather.proofs.moves.Tie as tie
 
 abbrev Inv-loop : tie.InvT-loop
-Inv-loop mask words₀ ones₀ i₀ words ones i = (i ≤ 6) × (length words ≡ 6) × Halved mask i ones × Moves mask i words
+Inv-loop mask words₀ ones₀ i₀ words ones i = (i ≤ 6) × (length words ≡ 6) × HalvesGaps mask i ones × Moves mask i words
 
 abbrev μ-loop : tie.MeasureT-loop
 μ-loop mask words₀ ones₀ i₀ words ones i = 6 - i

@@ -3,7 +3,7 @@ use native.Mathlib.Omega.{arith}
 use lib.ListN.{length}
 use Rattle.bits.proofs.Rank.{rank-le}
 use Rattle.pack.specs.Fields.{sizeOf}
-use Rattle.pack.proofs.FieldAnswers.{Within, refused, carried-out, limits, cut-room}
+use Rattle.pack.proofs.FieldAnswers.{InLimits, refused, carried-out, limits, cut-room}
 use borrow.Author.Needs.{needs}
 use Rattle.pack.proofs.pack.Statement.{statement}
 use Rattle.pack.proofs.pack.Tie as tie
@@ -20,7 +20,7 @@ returns c = refused _ _ _ _ _ (c .before .before .before .count .ensures) (c .be
 -- a call that is not refused is within the limits
 allowed : (c : tie.Else1)
     → let a = c .before .before .before .before .before .before .args in
-    Within (sizeOf (a .mask)) (a .a) (a .b) (length (a .words .now)) (length (a .out .now))
+    InLimits (sizeOf (a .mask)) (a .a) (a .b) (length (a .words .now)) (length (a .out .now))
 allowed c = limits _ _ _ _ _ (c .before .before .before .count .ensures) (c .before .before .answer .ensures) (c .if1 .left)
 
 mul-write-fields : tie.Need-mul-write-fields

@@ -1,4 +1,4 @@
--- `network::ready` meets its contract. Assumes nothing.
+-- `network::prepare_either` meets its contract. Assumes nothing.
 use mathlib.Core.Path.{_∙_, ap}
 use native.Mathlib.Omega.{arith}
 use Rattle.bits.proofs.Refusals.{log-le}
@@ -6,8 +6,8 @@ use Rattle.network.specs.Stage.{falling}
 use Rattle.network.specs.Word.{swapsAt}
 use Rattle.network.proofs.NetworkAnswers.{prepare-refused, prepare-done}
 use borrow.Author.Needs.{needs}
-use Rattle.network.proofs.ready.Statement.{statement}
-use Rattle.network.proofs.ready.Tie as tie
+use Rattle.network.proofs.prepare_either.Statement.{statement}
+use Rattle.network.proofs.prepare_either.Tie as tie
 
 network-refusal-requires : tie.Need-network-refusal-requires
 network-refusal-requires c κs = search needs
@@ -36,8 +36,8 @@ returns-2 c =
     prepare-done (a .rising) (a .width) (a .controls) (b .before .network-refusal .ensures) (b .if1 .left) (c .before .before .log-of .ensures)
     (c .prepare .ensures ∙ ap (swapsAt (falling 6)) (c .before .by-index .ensures))
 
-pub ready-spec : {M : Type 1} → statement M
-ready-spec =
+pub prepare-either-spec : {M : Type 1} → statement M
+prepare-either-spec =
     tie.close
     (tie.spec
     network-refusal-requires
