@@ -1,9 +1,8 @@
--- What the walks over a lent bank share. A function over one copies the bank out, passes it on with its other arguments, stores the bank that comes back and answers the rest; its walk says its own
--- locals, arguments and exit, and takes all else from here.
---     meets        a function's contract, from a walk of its MIR that may call another function
---     asks         a call, and what its contract says of the answer
---     lent, shown      the statements over a bank lent by `&mut` and by `&`, from the bank's locals and the operands
---     kept         what is had at exit, as `ends-at` asks it;        gone         a local is let go
+-- The walk of a function over a lent bank, once for all. Such a function copies the bank out and passes it on with its other arguments; of a bank lent by `&mut` it stores back what comes with
+-- the answer. A function's own proof says its arguments, its callee, its answer and its exit.
+--     meets            a function's contract, from a walk of its MIR that may call another function
+--     Callee, calling  the call: the callee's contract at the arguments, and what it says of the answer.        Beside      an answer of two fields, the second a bank
+--     lent-walk        the walk over a bank lent by `&mut`.        shown-walk      over one lent by `&`
 -- Assumes `Given`.
 use mathlib.Core.Path.{_≡_, refl, sym, subst}
 use mathlib.Core.List.{[], _∷_, List}
@@ -31,13 +30,14 @@ use types.Run.{Walks as Steps, Reads, Finds, Opds, and-then, no-more, alloc1, al
 use types.Part.{whole, sub, look-in}
 use types.SemTy.{Body}
 use sound.WpLaws.{FmC, fmOf, WpFn-mono}
-use denote.RattleType.{RattleType, flat}
+use denote.RattleType.{RattleType, Denots, Valss, owns, flat}
 use denote.Laws.{Is, Are, Ises, Spells, Tellss, valss, shows}
 use denote.Memory.{mem, cellAt, partAt}
 use denote.Signature.{typeAt, typesAt}
 use denote.Steps.{opens, closes, looks, shuts, owned, peeks, heard, only}
 use denote.Struct.Steps.{spelt}
 use denote.Struct.Laws as LL
+use denote.Struct.Struct.{Copies, twices}
 use denote.Triple.Statement.{Contract, Triple}
 use denote.Triple.Call.{calls-at}
 use denote.Triple.Clauses.{Ended, Clauses, Lasts, atExit, lasts, ensured, closing}
@@ -131,6 +131,15 @@ module _ {M : Type 1} {𝓤 : URA M} {H : Heap 𝓤} {A : Atoms 𝓤} {C : Calls
 
   abbrev pub Row : RattleType
   Row = typeAt (g .ended .signature .result) (g .at .0 .0)
+
+-- from the other arguments' types, each Copy, and their values
+module _ {M : Type 1} {𝓤 : URA M} {H : Heap 𝓤} {A : Atoms 𝓤} (W : Given 𝓤 H A) {C : Calls 𝓤 H} {f : Name} {h : Bank} where
+  abbrev pub calling : (S : Ended) (c : Clauses 𝓤 S) → Triple 𝓤 (C f) (contractOf 𝓤 H A S c) → (y : contractOf 𝓤 H A S c .Ghost) (φ : Res (S .signature) (y .0 .0) → Type 0)
+      → ((r : Res (S .signature) (y .0 .0)) (ws : Lasts S (y .0 .0) (y .0 .3)) → ent 𝓤 (c (y .0 .0) (y .0 .3) .ensures (y .1) r (atExit S (y .0 .0) (y .0 .3) ws)) (fact 𝓤 (φ r)))
+      → (Ts : List RattleType) → Copies 𝓤 H A Ts → (a : Denots Ts) (vss : Valss Ts)
+      → ent 𝓤 (sep 𝓤 (alive 𝓤 H A (S .signature) (y .0 .0) (y .0 .1)) (sep 𝓤 (sem 𝓤 H A (T.the-row .own h (bankVal h ∷ []))) (sem 𝓤 H A (owns Ts a vss)))) (contractOf 𝓤 H A S c .pre y) → Callee 𝓤 H A C f h
+  calling S c met y φ told Ts cs a vss pays =
+      record { ended = S; clauses = c; met = met; at = y; φ = φ; told = told; others = owns Ts a vss; twice = twices 𝓤 H A W Ts cs a vss; pays = pays }
 
 -- a local is let go, whatever it holds
 module _ {M : Type 1} {𝓤 : URA M} {H : Heap 𝓤} {A : Atoms 𝓤} {K : Type 0} {W : Given 𝓤 H A} {Γ : List (Item 𝓤)} {E : Env 𝓤 H} where
