@@ -1,4 +1,4 @@
-// The marked rows of paper 01, 'Reel of examples', proved from the definitions together: specs/Rows.antt is the list, proofs/Check.antt the check.
+// The marked rows of paper 01, 'Reel of examples', 1 to 10b, proved from the definitions together: specs/Rows.antt is the list, proofs/Check.antt the check.
 ghost use mathlib.Core.Path.{_≡_};
 ghost use lib.ListN.{length};
 ghost use Rattle.examples.specs.Rows.{rows};
