@@ -1,4 +1,4 @@
--- The marked rows of paper 01, 'Reel of examples', one list: each a call with its outcome. Assumes nothing.
+-- The marked rows of paper 01, 'Reel of examples', 1 to 10b, one list: each a call with its outcome. Rows 11 to 13 are run, not proved. Assumes nothing.
 use mathlib.Core.Path.{_≡_}
 use Prim.Native.Nat.{ℕ}
 use mathlib.Core.List.{List, [], _∷_, _++_}
