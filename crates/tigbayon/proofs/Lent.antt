@@ -342,9 +342,10 @@ module _ {M : Type 1} {𝓤 : URA M} {H : Heap 𝓤} {A : Atoms 𝓤} (W : Given
       → ((l₀ l₁ lᵢ lⱼ : ℕ) (bs : Blocks ps) → Spots 𝓤 H ((τ, l₀) ∷ (π, l₁) ∷ envOf 𝓤 H ps bs ((tyStruct ν τs, lⱼ) ∷ (T′.mir, lᵢ) ∷ [])) 2 ps bs
       × (spotOf 𝓤 H ((τ, l₀) ∷ (π, l₁) ∷ envOf 𝓤 H ps bs ((tyStruct ν τs, lⱼ) ∷ (T′.mir, lᵢ) ∷ [])) i ≡ (T′.mir, lᵢ, 0)) × (spotOf 𝓤 H ((τ, l₀) ∷ (π, l₁) ∷ envOf 𝓤 H ps bs ((tyStruct ν τs, lⱼ) ∷ (T′.mir, lᵢ) ∷ [])) j ≡ (tyStruct ν τs, lⱼ, 0)))
       → fieldAt zero τs 0 ≡ some (τ, m) → fieldAt zero τs 1 ≡ some (T′.mir, n) → (answer : Beside (Row g) (tyStruct ν τs) τ) (R : Row g .Denot → Fml) → ((r : Row g .Denot) (v : Val) → Is (Row g) r (v ∷ []) → ent 𝓤 (emp 𝓤) (sem 𝓤 H A (R r)))
-      → (Kf : Val → SProp 𝓤) → ((r : Row g .Denot) → ent 𝓤 (sep 𝓤 (sep 𝓤 (sep 𝓤 (A .lft κ q) (Tokens g)) (sep 𝓤 (sem 𝓤 H A (lentAt κ γ b o (g .others) (answer .bank r))) (sem 𝓤 H A (R r)))) (fact 𝓤 (g .φ r))) (Kf (answer .val r)))
+      → (Kf : Val → SProp 𝓤) (ψ : Row g .Denot → Type 0) → ((r : Row g .Denot) → ent 𝓤 (sep 𝓤 (sep 𝓤 (sep 𝓤 (A .lft κ q) (Tokens g)) (sep 𝓤 (sem 𝓤 H A (lentAt κ γ b o (g .others) (answer .bank r))) (sem 𝓤 H A (R r)))) (fact 𝓤 (ψ r))) (Kf (answer .val r)))
+      → ((r : Row g .Denot) → g .φ r → ψ r)
       → ent 𝓤 (sep 𝓤 (sep 𝓤 (A .lft κ q) (Tokens g)) (sem 𝓤 H A (lentAt κ γ b o (g .others) h))) (WpFn 𝓤 H C Λ e (vptr b o ∷ valsOf ps) Kf)
-  lent-walk i j ls body ptr at f₀ f₁ answer R made Kf ends =
+  lent-walk i j ls body ptr at f₀ f₁ answer R made Kf ψ ends keeps =
       qed W ((‵ (flft κ q) ⊛ raw (Tokens g)) ∷ ‵ (lentAt κ γ b o (g .others) h) ∷ []) ∵ split ! $ move ! (2 ∷ []) $ fsplit ! $ fsplit3 ! $ drop ! $
       -- [obs; the borrow; what the others own; the token; the tokens]
       move ! (0 ∷ 1 ∷ 3 ∷ 4 ∷ []) $ enter-as ! e (vptr b o ∷ valsOf ps) ls body (
@@ -353,16 +354,17 @@ module _ {M : Type 1} {𝓤 : URA M} {H : Heap 𝓤} {A : Atoms 𝓤} (W : Given
       move ! (9 ∷ 10 ∷ 11 ∷ 12 ∷ 13 ∷ 1 ∷ 3 ∷ 5 ∷ 7 ∷ 0 ∷ []) $ lent ! fm b o g refl refl (at l₀ l₁ lᵢ lⱼ bs .1) (at l₀ l₁ lᵢ lⱼ bs .2) f₀ f₁ answer
       (operands passed (and-then ! (load ! (found ! (at l₀ l₁ lᵢ lⱼ bs .1) (stop !)) (look ! 6 refl)) (read-all ! 10 (cells 𝓤 H ps bs) refl 2 ps bs (at l₀ l₁ lᵢ lⱼ bs .0) (λ τ b′ v w. w)))) (λ v r d is.
       -- [obs; the borrow; the token; the tokens; what the others own; _i; _j; _1; _0; the others' locals at 9; …]
-      returns ! (look ! 8 refl) $ move ! (8 ∷ 13 ∷ 7 ∷ 12 ∷ 9 ∷ 6 ∷ 11 ∷ 5 ∷ 10 ∷ []) $ gone ! $ gone ! $ free-all ! ps bs _ (gone ! $ gone ! $ free0 ! $ suffices ! _ (ends r) $ says ! d $
+      returns ! (look ! 8 refl) $ move ! (8 ∷ 13 ∷ 7 ∷ 12 ∷ 9 ∷ 6 ∷ 11 ∷ 5 ∷ 10 ∷ []) $ gone ! $ gone ! $ free-all ! ps bs _ (gone ! $ gone ! $ free0 ! $ suffices ! _ (ends r) $ says ! (keeps r d) $
       move ! (2 ∷ 3 ∷ []) $ join ! $ frame ! $ feqI ! (List Val) (vptr b o ∷ []) (vptr b o ∷ []) refl $ fjoin3 ! $ fjoin ! $ use0 W (‵ (R r)) (made r v is) $ move ! (1 ∷ 0 ∷ []) $ done !)))))))))
 
   pub shown-walk : {ρ π : Ty} (i : ℕ) → e .locals ≡ local ρ valueLocal ∷ local π valueLocal ∷ localsOf ps (local T′.mir valueLocal ∷ [])
       → e .body ≡ copiedOut i (seq (call f (copy (place i []) ∷ copiesFrom 2 ps) (place 0 [])) return) → T (hasTy π (vptr b o)) × WT (vptr b o)
       → ((l₀ l₁ lᵢ : ℕ) (bs : Blocks ps) → Spots 𝓤 H ((ρ, l₀) ∷ (π, l₁) ∷ envOf 𝓤 H ps bs ((T′.mir, lᵢ) ∷ [])) 2 ps bs × (spotOf 𝓤 H ((ρ, l₀) ∷ (π, l₁) ∷ envOf 𝓤 H ps bs ((T′.mir, lᵢ) ∷ [])) i ≡ (T′.mir, lᵢ, 0)))
       → ((r : Row g .Denot) (v : Val) → Is (Row g) r (v ∷ []) → T (hasTy ρ v) × WT v)
-      → (Kf : Val → SProp 𝓤) → ((r : Row g .Denot) (v : Val) → ent 𝓤 (sep 𝓤 (sep 𝓤 (sep 𝓤 (A .lft κ q) (Tokens g)) (sep 𝓤 (sem 𝓤 H A (shownAt κ γ b o (g .others) h)) (sem 𝓤 H A (Row g .own r (v ∷ []))))) (fact 𝓤 (g .φ r))) (Kf v))
+      → (Kf : Val → SProp 𝓤) (ψ : Row g .Denot → Type 0) → ((r : Row g .Denot) (v : Val) → ent 𝓤 (sep 𝓤 (sep 𝓤 (sep 𝓤 (A .lft κ q) (Tokens g)) (sep 𝓤 (sem 𝓤 H A (shownAt κ γ b o (g .others) h)) (sem 𝓤 H A (Row g .own r (v ∷ []))))) (fact 𝓤 (ψ r))) (Kf v))
+      → ((r : Row g .Denot) → g .φ r → ψ r)
       → ent 𝓤 (sep 𝓤 (sep 𝓤 (A .lft κ q) (Tokens g)) (sem 𝓤 H A (shownAt κ γ b o (g .others) h))) (WpFn 𝓤 H C Λ e (vptr b o ∷ valsOf ps) Kf)
-  shown-walk i ls body ptr at answer Kf ends =
+  shown-walk i ls body ptr at answer Kf ψ ends keeps =
       qed W ((‵ (flft κ q) ⊛ raw (Tokens g)) ∷ ‵ (shownAt κ γ b o (g .others) h) ∷ []) ∵ split ! $ move ! (2 ∷ []) $ fsplit ! $ fsplit3 ! $ drop ! $
       -- [res; the fractured borrow; what the others own; the token; the tokens]
       move ! (1 ∷ 3 ∷ 4 ∷ 2 ∷ []) $ enter-as ! e (vptr b o ∷ valsOf ps) ls body (
@@ -371,5 +373,5 @@ module _ {M : Type 1} {𝓤 : URA M} {H : Heap 𝓤} {A : Atoms 𝓤} (W : Given
       move ! (7 ∷ 8 ∷ 9 ∷ 10 ∷ 1 ∷ 3 ∷ 5 ∷ 0 ∷ []) $ shown ! fm b o g refl refl (at l₀ l₁ lᵢ bs .1) answer
       (operands passed (and-then ! (load ! (found ! (at l₀ l₁ lᵢ bs .1) (stop !)) (look ! 4 refl)) (read-all ! 7 (cells 𝓤 H ps bs) refl 2 ps bs (at l₀ l₁ lᵢ bs .0) (λ τ b′ v w. w)))) (λ v r d.
       -- [the fractured borrow; the token; the tokens; what the others own; what the answer owns; _i; _1; _0; the others' locals at 8; …; res]
-      returns ! (look ! 7 refl) $ move ! (7 ∷ 11 ∷ 6 ∷ 10 ∷ 8 ∷ 5 ∷ 9 ∷ []) $ gone ! $ gone ! $ free-all ! ps bs _ (gone ! $ free0 ! $ suffices ! _ (ends r v) $ says ! d $
+      returns ! (look ! 7 refl) $ move ! (7 ∷ 11 ∷ 6 ∷ 10 ∷ 8 ∷ 5 ∷ 9 ∷ []) $ gone ! $ gone ! $ free-all ! ps bs _ (gone ! $ free0 ! $ suffices ! _ (ends r v) $ says ! (keeps r d) $
       move ! (1 ∷ 2 ∷ []) $ join ! $ frame ! $ move ! (3 ∷ 0 ∷ []) $ feqI ! (List Val) (vptr b o ∷ []) (vptr b o ∷ []) refl $ fjoin3 ! $ fjoin ! $ done !))))))))

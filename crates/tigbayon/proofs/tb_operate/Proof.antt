@@ -63,10 +63,11 @@ tb-operate-spec 𝓤 H 𝓜 𝓖 𝓡 =
     let r2 = a .1 .1 .1 .0 in
     let r3 = a .1 .1 .1 .1 .0 in
     let vss : Valss (u8 ∷ u8 ∷ u8 ∷ u8 ∷ []) = (vint w8 kind ∷ [], (vint w8 r1 ∷ [], (vint w8 r2 ∷ [], (vint w8 r3 ∷ [], tt)))) in
+    -- _7 is the bank copied out, _6 the answer
     lent-walk W Λ fm (κs .0) (qs .0) (a .0 .name) (a .0 .now) (a .0 .ptr .0) (a .0 .ptr .1)
     (calling W core.ended given known ((tt, tt, tt, (a .0 .now, a .1), (bankVal (a .0 .now) ∷ [], vss)), tt) (λ r. r ≡ operateOf (a .0 .now) kind r1 r2 r3) (λ r ws. id⊢ 𝓤 _)
     (u8 ∷ u8 ∷ u8 ∷ u8 ∷ []) (uint-copy 𝓤 H A W w8, (uint-copy 𝓤 H A W w8, (uint-copy 𝓤 H A W w8, (uint-copy 𝓤 H A W w8, tt)))) (a .1) vss (alone 𝓤 _))
     ((tyInt w8, vint w8 kind) ∷ (tyInt w8, vint w8 r1) ∷ (tyInt w8, vint w8 r2) ∷ (tyInt w8, vint w8 r3) ∷ []) ((tt, record { fits = are .1 .0 .1 }), ((tt, record { fits = are .1 .1 .0 .1 }), ((tt, record { fits = are .1 .1 .1 .0 .1 }), ((tt, record { fits = are .1 .1 .1 .1 .0 .1 }), tt)))) refl code.function 7 6 refl refl (tt, tt)
     (λ l₀ l₁ lᵢ lⱼ bs. ((refl, (refl, (refl, (refl, tt)))), refl, refl)) refl refl (answer 𝓤 H A W)
-    (λ r. S.the-row .own (r .answer) (answer 𝓤 H A W .val r ∷ [])) (λ r v is. LL.makes S.the-type S′.the-plain 𝓤 H A (r .answer) _ (LL.owed R.the-type R′.the-laws r (v ∷ []) is .0)) _
-    (λ r. ends-at 𝓤 H A self.ended stayed owed W ((κs, qs, bounds, a, (vptr (a .0 .ptr .0) (a .0 .ptr .1) ∷ [], vss)), g) (answer 𝓤 H A W .val r) (r .answer) (r .bank, (tt, (tt, (tt, (tt, tt))))) (tt, (tt, (tt, (tt, (tt, tt)))))))
+    (λ r. S.the-row .own (r .answer) (answer 𝓤 H A W .val r ∷ [])) (λ r v is. LL.makes S.the-type S′.the-plain 𝓤 H A (r .answer) _ (LL.owed R.the-type R′.the-laws r (v ∷ []) is .0)) _ _
+    (λ r. ends-at 𝓤 H A self.ended stayed owed W ((κs, qs, bounds, a, (vptr (a .0 .ptr .0) (a .0 .ptr .1) ∷ [], vss)), g) (answer 𝓤 H A W .val r) (r .answer) (r .bank, (tt, (tt, (tt, (tt, tt))))) (tt, (tt, (tt, (tt, (tt, tt)))))) (λ r e. e))

@@ -44,9 +44,10 @@ tb-read-spec 𝓤 H 𝓜 𝓖 𝓡 =
     (λ C Λ fm known κs qs bounds a g are.
     let n = a .1 .0 in
     let vss : Valss (u8 ∷ []) = (vint w8 n ∷ [], tt) in
+    -- _3 is the bank copied out
     shown-walk W Λ fm (κs .0) (qs .0) (a .0 .name) (a .0 .now) (a .0 .ptr .0) (a .0 .ptr .1)
     (calling W core.ended given known ((tt, tt, tt, (a .0 .now, a .1), (bankVal (a .0 .now) ∷ [], vss)), tt) (λ r. r ≡ readOf (a .0 .now) n) (λ r ws. id⊢ 𝓤 _)
     (u8 ∷ []) (uint-copy 𝓤 H A W w8, tt) (a .1) vss (alone 𝓤 _))
     ((tyInt w8, vint w8 n) ∷ []) ((tt, record { fits = are .1 .0 .1 }), tt) refl code.function 3 refl refl (tt, tt)
-    (λ l₀ l₁ lᵢ bs. ((refl, tt), refl)) (λ r v is. LL.lawful R.the-type R′.the-laws 𝓤 H A W .typed r _ is .0) _
-    (λ r v. ends-at 𝓤 H A self.ended stayed owed W ((κs, qs, bounds, a, (vptr (a .0 .ptr .0) (a .0 .ptr .1) ∷ [], vss)), g) v r (tt, (tt, tt)) (tt, (tt, tt))))
+    (λ l₀ l₁ lᵢ bs. ((refl, tt), refl)) (λ r v is. LL.lawful R.the-type R′.the-laws 𝓤 H A W .typed r _ is .0) _ _
+    (λ r v. ends-at 𝓤 H A self.ended stayed owed W ((κs, qs, bounds, a, (vptr (a .0 .ptr .0) (a .0 .ptr .1) ∷ [], vss)), g) v r (tt, (tt, tt)) (tt, (tt, tt))) (λ r e. e))

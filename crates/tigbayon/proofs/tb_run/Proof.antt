@@ -66,10 +66,11 @@ tb-run-spec 𝓤 H 𝓜 𝓖 𝓡 =
     let list : Val = sliceVal (s .ptr) (length (s .now)) in
     let Slice : RattleType = ShrSlice (named 1) (κs .1 .0) u8 in
     let vss : Valss (Slice ∷ u32 ∷ []) = (list ∷ [], (vint w32 n ∷ [], tt)) in
+    -- _5 is the bank copied out, _4 the answer
     lent-walk W Λ fm (κs .0) (qs .0) (a .0 .name) (a .0 .now) (a .0 .ptr .0) (a .0 .ptr .1)
     (calling W core.ended given known ((κs .1, qs .1, tt, (a .0 .now, a .1), (bankVal (a .0 .now) ∷ [], vss)), tt) (λ r. r ≡ runOf (a .0 .now) (s .now) n) (λ r ws. id⊢ 𝓤 _)
     (Slice ∷ u32 ∷ []) (shr-slice-copy 𝓤 H A W (named 1) (κs .1 .0) u8, (uint-copy 𝓤 H A W w32, tt)) (a .1) vss (alone 𝓤 _))
     ((lone (Slice .mir), list) ∷ (tyInt w32, vint w32 n) ∷ []) (shr-slice-lawful 𝓤 H A W (named 1) (κs .1 .0) u8 .typed s (list ∷ []) (are .1 .0) .0, ((tt, record { fits = are .1 .1 .0 .1 }), tt)) refl code.function 5 4 refl refl (tt, tt)
     (λ l₀ l₁ lᵢ lⱼ bs. ((refl, (refl, tt)), refl, refl)) refl refl (answer 𝓤 H A W)
-    (λ r. S.the-row .own (r .run) (answer 𝓤 H A W .val r ∷ [])) (λ r v is. LL.makes S.the-type S′.the-plain 𝓤 H A (r .run) _ (LL.owed R.the-type R′.the-laws r (v ∷ []) is .0)) _
-    (λ r. ends-at 𝓤 H A self.ended stayed owed W ((κs, qs, bounds, a, (vptr (a .0 .ptr .0) (a .0 .ptr .1) ∷ [], vss)), g) (answer 𝓤 H A W .val r) (r .run) (r .bank, (tt, (tt, tt))) (tt, (tt, (tt, tt)))))
+    (λ r. S.the-row .own (r .run) (answer 𝓤 H A W .val r ∷ [])) (λ r v is. LL.makes S.the-type S′.the-plain 𝓤 H A (r .run) _ (LL.owed R.the-type R′.the-laws r (v ∷ []) is .0)) _ _
+    (λ r. ends-at 𝓤 H A self.ended stayed owed W ((κs, qs, bounds, a, (vptr (a .0 .ptr .0) (a .0 .ptr .1) ∷ [], vss)), g) (answer 𝓤 H A W .val r) (r .run) (r .bank, (tt, (tt, tt))) (tt, (tt, (tt, tt)))) (λ r e. e))

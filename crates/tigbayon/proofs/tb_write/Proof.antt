@@ -59,10 +59,11 @@ tb-write-spec 𝓤 H 𝓜 𝓖 𝓡 =
     let n = a .1 .0 in
     let m = a .1 .1 .0 in
     let vss : Valss (u8 ∷ u64 ∷ []) = (vint w8 n ∷ [], (vint w64 m ∷ [], tt)) in
+    -- _5 is the bank copied out, _4 the answer
     lent-walk W Λ fm (κs .0) (qs .0) (a .0 .name) (a .0 .now) (a .0 .ptr .0) (a .0 .ptr .1)
     (calling W core.ended given known ((tt, tt, tt, (a .0 .now, a .1), (bankVal (a .0 .now) ∷ [], vss)), tt) (λ r. r ≡ writeOf (a .0 .now) n m) (λ r ws. id⊢ 𝓤 _)
     (u8 ∷ u64 ∷ []) (uint-copy 𝓤 H A W w8, (uint-copy 𝓤 H A W w64, tt)) (a .1) vss (alone 𝓤 _))
     ((tyInt w8, vint w8 n) ∷ (tyInt w64, vint w64 m) ∷ []) ((tt, record { fits = are .1 .0 .1 }), ((tt, record { fits = are .1 .1 .0 .1 }), tt)) refl code.function 5 4 refl refl (tt, tt)
     (λ l₀ l₁ lᵢ lⱼ bs. ((refl, (refl, tt)), refl, refl)) refl refl (answer 𝓤 H A W)
-    (λ r. u8 .own (r .refusal) (vint w8 (r .refusal) ∷ [])) (λ r v is. uint-makes 𝓤 H A W w8 (r .refusal) _ (refl, LL.owed R.the-type R′.the-laws r (v ∷ []) is .0 .1)) _
-    (λ r. ends-at 𝓤 H A self.ended stayed owed W ((κs, qs, bounds, a, (vptr (a .0 .ptr .0) (a .0 .ptr .1) ∷ [], vss)), g) (vint w8 (r .refusal)) (r .refusal) (r .bank, (tt, (tt, tt))) (tt, (tt, (tt, tt)))))
+    (λ r. u8 .own (r .refusal) (vint w8 (r .refusal) ∷ [])) (λ r v is. uint-makes 𝓤 H A W w8 (r .refusal) _ (refl, LL.owed R.the-type R′.the-laws r (v ∷ []) is .0 .1)) _ _
+    (λ r. ends-at 𝓤 H A self.ended stayed owed W ((κs, qs, bounds, a, (vptr (a .0 .ptr .0) (a .0 .ptr .1) ∷ [], vss)), g) (vint w8 (r .refusal)) (r .refusal) (r .bank, (tt, (tt, tt))) (tt, (tt, (tt, tt)))) (λ r e. e))

@@ -1,4 +1,4 @@
--- `unit::step` meets its contract. Assumes nothing.
+-- `unit::step` meets its contract: congruence of what its calls ensure. Assumes nothing.
 use borrow.Author.Needs.{needs}
 use Rattle.unit.proofs.step.Statement.{statement}
 use Rattle.unit.proofs.step.Tie as tie

@@ -1,4 +1,4 @@
--- `unit::step_at` meets its contract. Assumes nothing.
+-- `unit::step_at` meets its contract: search finds all of it, and the file names `returns`, where an edit is to be refused. Assumes nothing.
 use borrow.Author.Needs.{needs}
 use Rattle.unit.proofs.step_at.Statement.{statement}
 use Rattle.unit.proofs.step_at.Tie as tie
