@@ -3,7 +3,7 @@
 --     meets            a function's contract, from a walk of its MIR that may call another function
 --     Callee, calling  the call: the callee's contract at the arguments, and what it says of the answer.        Beside      an answer of two fields, the second a bank
 --     lent-walk        the walk over a bank lent by `&mut`.        shown-walk      over one lent by `&`
--- Assumes `Given`.
+-- Assumes nothing: `Given` is the state of the machine, a parameter of every walk.
 use mathlib.Core.Path.{_≡_, refl, sym, subst}
 use mathlib.Core.List.{[], _∷_, List}
 use mathlib.Core.Option.{some}

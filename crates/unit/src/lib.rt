@@ -8,7 +8,7 @@ ghost use Rattle.network.specs.Stage.{butterflyOf, inverseOf};
 ghost use Rattle.unit.specs.Bank.{register, withRegister, withB, withIb, stagesOf, packedOf};
 ghost use Rattle.unit.specs.Calls.{operateOf, numberRefusal, readOf, writeOf};
 ghost use Rattle.unit.specs.Run.{operationAt, stepBy, ownRefusal, operationsOf, ranOf, lowerOf, operationsRefusal, runRefusal, endedOf, outcomeOf, runOf};
-ghost use Rattle.unit.specs.Operation.{cyclesOf, isKind, usedOf, areRegisters, operationRefusal, loadOf, effectOf, stepOf};
+ghost use Rattle.unit.specs.Operation.{cyclesOf, isKind, usedOf, areRegisters, operationRefusal, loadOf};
 
 // The registers of the unit: sixteen general ones, and the controls of both networks, two stages a register, the earlier one in the low half.
 #[repr(C)]
@@ -297,13 +297,17 @@ fn load(bank: Bank, r1: u8, x: u64, y: u64) -> Bank
     }
 }
 
-// The table of paper 01: what an accepted operation does to the bank, x and y being the words in r2 and r3.
-fn effect(bank: Bank, kind: u8, r1: u8, x: u64, y: u64) -> Bank
-    ensures { λ r. ⌜ r ≡ effectOf bank kind r1 x y ⌝ }
+// internal: an operation at byte `at`. The bank after it, if it is accepted: the table of paper 01. Both operands are read before the result is written.
+fn step(bank: Bank, ops: &[u8], at: usize) -> Bank
+    requires { ⌜ at + 3 < length (now ops) ⌝ }
+    ensures { λ r. ⌜ r ≡ stepBy bank (operationAt (now (ops .entry)) at) ⌝ }
 {
     let b = bank.b;
     let ib = bank.ib;
-    match kind {
+    let r1 = ops[at + 1];
+    let y = general_at(bank, ops[at + 3]);
+    let x = general_at(bank, ops[at + 2]);
+    match ops[at] {
         1 => with_general(bank, r1, butterfly_at(b, x)),
         2 => with_general(bank, r1, inverse_at(ib, x)),
         3 => with_general(bank, r1, inverse_at(ib, x & y)),
@@ -316,15 +320,6 @@ fn effect(bank: Bank, kind: u8, r1: u8, x: u64, y: u64) -> Bank
         10 => with_general(bank, r1, grouped(y, x)),
         _ => bank,
     }
-}
-
-// The bank after an accepted operation: both operands are read before the result is written.
-fn step(bank: Bank, kind: u8, r1: u8, r2: u8, r3: u8) -> Bank
-    ensures { λ r. ⌜ r ≡ stepOf bank kind r1 r2 r3 ⌝ }
-{
-    let x = general_at(bank, r2);
-    let y = general_at(bank, r3);
-    effect(bank, kind, r1, x, y)
 }
 
 // One operation on the bank: its cycles, or the lowest refusal and the bank as it was.
@@ -341,12 +336,13 @@ pub fn operate(bank: Bank, kind: u8, r1: u8, r2: u8, r3: u8) -> Operated
             bank,
         };
     }
+    let bytes = [kind, r1, r2, r3];
     Operated {
         answer: Cycles {
             refusal: 0,
             cycles: cycles_of(kind),
         },
-        bank: step(bank, kind, r1, r2, r3),
+        bank: step(bank, &bytes, 0),
     }
 }
 
@@ -418,14 +414,6 @@ fn refusal_at(ops: &[u8], at: usize) -> u8
     operation_refusal(ops[at], ops[at + 1], ops[at + 2], ops[at + 3])
 }
 
-// internal: an operation at byte `at`. The bank after it.
-fn step_at(bank: Bank, ops: &[u8], at: usize) -> Bank
-    requires { ⌜ at + 3 < length (now ops) ⌝ }
-    ensures { λ r. ⌜ r ≡ stepBy bank (operationAt (now (ops .entry)) at) ⌝ }
-{
-    step(bank, ops[at], ops[at + 1], ops[at + 2], ops[at + 3])
-}
-
 // internal: whole operations. The lowest refusal of any of them; 0 if there is none.
 fn operations_refusal(ops: &[u8]) -> u8
     requires { ⌜ length (now ops) % 4 ≡ 0 ⌝ }
@@ -467,7 +455,7 @@ fn carry_out(bank: Bank, ops: &[u8], budget: u32) -> Ran
         if left < cycles {
             return ended(SPENT, ran, budget - left, after);
         }
-        after = step_at(after, ops, at);
+        after = step(after, ops, at);
         left -= cycles;
         ran += 1;
         at += 4;

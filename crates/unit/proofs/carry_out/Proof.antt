@@ -40,8 +40,8 @@ returns c =
     let g = rw (operations-next ops (l .at) h) at (l .inv .2) in
     c .ended .ensures ∙ going-spent g (b .cycles-of .ensures) (c .before .if1 .taken)
 
-step-at-requires : tie.Need-step-at-requires Inv-loop μ-loop
-step-at-requires c κs = search needs
+step-requires : tie.Need-step-requires Inv-loop μ-loop
+step-requires c κs = search needs
 
 add-ran : tie.Need-add-ran Inv-loop μ-loop
 add-ran c = search needs
@@ -59,7 +59,7 @@ loop-again c =
     let ops = b .before .before .before .before .before .args .ops .now in
     let h : l .at + 3 < length ops = search needs in
     let g = rw (operations-next ops (l .at) h) at (l .inv .2) in
-    (search needs, search needs, going-next g (b .cycles-of .ensures) (search needs) (c .step-at .ensures))
+    (search needs, search needs, going-next g (b .cycles-of .ensures) (search needs) (c .step .ensures))
 
 sub-ended-2 : tie.Need-sub-ended-2 Inv-loop μ-loop
 sub-ended-2 c = search needs
@@ -85,7 +85,7 @@ carry-out-spec =
     sub-ended
     ended-requires
     returns
-    step-at-requires
+    step-requires
     add-ran
     add-at
     loop-less
