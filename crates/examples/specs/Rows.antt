@@ -23,7 +23,7 @@ pub data Call : Type 0 where
   scatter : (w m x : ℕ) → Call
   group : (w m x : ℕ) → Call
   decode : (w m : ℕ) → Call
-  butterfly : (w : ℕ) (stages : List ℕ) (x : ℕ) → Call
+  throughButterfly : (w : ℕ) (stages : List ℕ) (x : ℕ) → Call
   route : (w : ℕ) (entries : List ℕ) → Call
   routeButterfly : (w : ℕ) (entries : List ℕ) → Call
   routeInverse : (w : ℕ) (entries : List ℕ) → Call
@@ -54,7 +54,7 @@ rowOutcome (gather w m x) = gathered (answerOf gatherOf w m x)
 rowOutcome (scatter w m x) = gathered (answerOf scatterOf w m x)
 rowOutcome (group w m x) = gathered (answerOf groupOf w m x)
 rowOutcome (decode w m) = decoded (decodeAnswer w m)
-rowOutcome (butterfly w cs x) = carried (networkAnswer butterflyOf w (record { stages = cs }) x)
+rowOutcome (throughButterfly w cs x) = carried (networkAnswer butterflyOf w (record { stages = cs }) x)
 rowOutcome (route w es) = routed (routeAnswer w es)
 rowOutcome (routeButterfly w es) = routedOne (oneAnswer butterflyFits butterflyAlone w es)
 rowOutcome (routeInverse w es) = routedOne (oneAnswer inverseFits inverseAlone w es)
@@ -87,7 +87,7 @@ rows =
     ∷ record { call = group 8 0xAD 0xB6; outcome = 0 ∷ 0x7A ∷ [] }
     ∷ record { call = decode 8 0xAD; outcome = 0 ∷ 0x7 ∷ 0x1 ∷ 0x5 ∷ 0 ∷ 0 ∷ 0 ∷ 0x5 ∷ 0x1 ∷ 0x7 ∷ 0 ∷ 0 ∷ 0 ∷ [] }
     ∷ record { call = decode 8 0; outcome = 0 ∷ zeros ++ zeros }
-    ∷ record { call = butterfly 8 zeros 0x01; outcome = 0 ∷ 0x80 ∷ [] }
+    ∷ record { call = throughButterfly 8 zeros 0x01; outcome = 0 ∷ 0x80 ∷ [] }
     ∷ record { call = route 8 (7 ∷ 6 ∷ 5 ∷ 4 ∷ 3 ∷ 2 ∷ 1 ∷ 0 ∷ []); outcome = 0 ∷ 0xF ∷ 0xF ∷ 0xF ∷ 0 ∷ 0 ∷ 0 ∷ zeros }
     ∷ record { call = route 8 exchange14; outcome = 0 ∷ 0xD ∷ 0xF ∷ 0xF ∷ 0 ∷ 0 ∷ 0 ∷ 0xB ∷ 0xF ∷ 0xD ∷ 0 ∷ 0 ∷ 0 ∷ [] }
     ∷ record { call = routeButterfly 8 exchange14; outcome = 6 ∷ zeros }
