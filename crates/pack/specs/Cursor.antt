@@ -1,4 +1,4 @@
--- Where a cursor stands in a stream of bits. Internal: no call's answer cites it. Assumes nothing.
+-- Where a cursor stands in a stream of bits, and the prepared network of a mask. Internal: no answer of a call cites it; `prepared-gathers`, `prepared-scatters` do. Assumes nothing.
 use mathlib.Core.Path.{_≡_}
 use mathlib.Core.List.{List}
 use Prim.Native.Nat.{ℕ, _+_, _*_, _<_}

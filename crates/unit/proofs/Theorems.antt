@@ -11,12 +11,13 @@ use lib.ListN.{length, set, take}
 use lib.Seq.{take-length}
 use borrow.Author.Tests.{eq-eqb, le-ltb, not-false}
 use Rattle.bits.proofs.Refusals.{neither}
-use Rattle.network.specs.Stage.{falling, butterflyOf, inverseOf}
+use Rattle.network.specs.Stage.{falling, butterflyOf, inverseOf, reversedWord}
 use Rattle.network.specs.Decoder.{decodeOf, decodeInverseOf}
+use Rattle.network.proofs.Reversal.{zeros-reverse}
 use Rattle.network.proofs.MaskRouting.{decoded-stage-lt, mask-routing-gather, mask-routing-scatter}
 use Rattle.unit.specs.declared.Bank.{Bank}
 use Rattle.unit.specs.declared.Ran.{Ran}
-use Rattle.unit.specs.Bank.{register, stagesOf, packedOf}
+use Rattle.unit.specs.Bank.{fresh, register, withRegister, stagesOf, packedOf}
 use Rattle.unit.specs.Operation.{cyclesOf, isKind, usedOf, areRegisters, operationRefusal, effectOf, stepOf}
 use Rattle.unit.specs.Calls.{operateOf, operatesOf}
 use Rattle.unit.specs.Run.{Operation, stepBy, operationsOf, anyKind, anyRegister, stepsOf, sumOf, ranOf, endedOf, outcomeOf, refusedOf, runRefusal, runOf}
@@ -114,6 +115,12 @@ module _ (m : ℕ) where
   held-inverse : stagesOf (packedOf (decodeInverseOf 6 m)) ≡ decodeInverseOf 6 m
   unfolding decodeInverseOf decodeOf falling
   held-inverse = stages-packed _ _ _ _ _ _ (decoded-stage-lt 64 m 1) (decoded-stage-lt 64 m 4) (decoded-stage-lt 64 m 16)
+
+-- "A fresh unit's kind 1 reverses the word", whatever its general registers hold.
+pub fresh-reverses : (k : Bank) (r1 r2 r3 : ℕ) → k .b ≡ fresh .b → register k r2 < 2 ^ 64 → stepOf k 1 r1 r2 r3 ≡ withRegister k r1 (reversedWord 64 (register k r2))
+unfolding effectOf
+fresh-reverses k r1 r2 r3 e h =
+    ap (withRegister k r1) (ap (λ (rs : List ℕ). butterflyOf 6 (stagesOf rs) (register k r2)) e ∙ zeros-reverse 6 (register k r2) h)
 
 module _ (k : Bank) (a b r1 r2 r3 : ℕ) (h : register k r3 < 2 ^ 64) where
   abbrev mask : ℕ
