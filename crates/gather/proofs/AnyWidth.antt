@@ -37,12 +37,12 @@ module _ (w m x : ℕ) (h : w ≤ 64) where
   unfolding gatherOf
   gather-wider z = steady (λ n. gatherOf n m x) w 64 (λ p l. pick-marked-suc m p x ∙ rw (z p l, zero-mul, zero-add)) h
 
-  pub gather-64 : m < 2 ^ w → gatherOf 64 m x ≡ gatherOf w m x
-  gather-64 l = gather-wider λ p b. omega (arith, bit-above p l b)
+  pub gather-at-width : m < 2 ^ w → gatherOf 64 m x ≡ gatherOf w m x
+  gather-at-width l = gather-wider λ p b. omega (arith, bit-above p l b)
 
-  pub scatter-64 : m < 2 ^ w → scatterOf 64 m x ≡ scatterOf w m x
+  pub scatter-at-width : m < 2 ^ w → scatterOf 64 m x ≡ scatterOf w m x
   unfolding scatterOf
-  scatter-64 l =
+  scatter-at-width l =
       steady (λ n. scatterOf n m x) w 64 (λ p b. put-marked-suc m p x ∙ rw (bit-above p l b, zero-min, zero-mul, zero-add)) h
 
 -- Group: the marked bits, and the gather by the complement above them.
@@ -51,11 +51,11 @@ group-split : (w m x : ℕ) → w ≤ 64 → m < 2 ^ 64 → groupOf w m x ≡ ga
 unfolding groupOf gatherOf
 group-split w m x h l = rw (pick-append x (marked m w) (unmarked m w), length-marked m w, unmarked-not 64 l w h)
 
-pub group-64 : (w m x : ℕ) → w ≤ 64 → m < 2 ^ w → x < 2 ^ w → groupOf 64 m x ≡ groupOf w m x
-group-64 w m x h l k =
+pub group-at-width : (w m x : ℕ) → w ≤ 64 → m < 2 ^ w → x < 2 ^ w → groupOf 64 m x ≡ groupOf w m x
+group-at-width w m x h l k =
     let f : m < 2 ^ 64 = omega (arith, pow-mono h) in
     let upper = gather-wider w ((2 ^ 64 - 1) - m) x h (λ p b. omega (arith, bit-above p k b)) in
-    group-split 64 m x (omega arith) f ∙ rw (upper, rank-wider l h, gather-64 w m x h l) (sym (group-split w m x h f))
+    group-split 64 m x (omega arith) f ∙ rw (upper, rank-wider l h, gather-at-width w m x h l) (sym (group-split w m x h f))
 
 times-small : (a n : ℕ) → a * n < n → a ≡ 0
 times-small a n h = lt-one (lt-of-mul-lt-mul-right n {m = a} {n = 1} (rw one-mul h))

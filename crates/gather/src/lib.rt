@@ -57,7 +57,7 @@ fn moves(mask: u64) -> [u64; 6]
 }
 
 // internal: gather at width 64. A marked bit goes down by the number of unmarked places below it, one power of two a turn.
-fn compress(mask: u64, word: u64) -> u64
+pub fn gather_64(mask: u64, word: u64) -> u64
     ensures { λ r. ⌜ r ≡ gatherOf 64 mask word ⌝ }
 {
     let words = moves(mask);
@@ -72,7 +72,7 @@ fn compress(mask: u64, word: u64) -> u64
 }
 
 // internal: scatter at width 64. The same moves upward, from the last.
-fn expand(mask: u64, word: u64) -> u64
+pub fn scatter_64(mask: u64, word: u64) -> u64
     ensures { λ r. ⌜ r ≡ scatterOf 64 mask word ⌝ }
 {
     let words = moves(mask);
@@ -86,15 +86,15 @@ fn expand(mask: u64, word: u64) -> u64
 }
 
 // internal: group at width 64. The marked bits, and above them the unmarked ones; with all 64 marked there are none.
-fn group_bits(mask: u64, word: u64) -> u64
+pub fn group_64(mask: u64, word: u64) -> u64
     ensures { λ r. ⌜ r ≡ groupOf 64 mask word ⌝ }
 {
-    let low = compress(mask, word);
+    let low = gather_64(mask, word);
     let count = bits::count(mask);
     if count == 64 {
         return low;
     }
-    low + (compress(!mask, word) << count)
+    low + (gather_64(!mask, word) << count)
 }
 
 // The answer of a call: the word, unless it is refused.
@@ -114,19 +114,19 @@ fn answer(refused: u8, word: u64) -> Gathered
 pub fn gather(width: u32, mask: u64, word: u64) -> Gathered
     ensures { λ r. ⌜ r ≡ answerOf gatherOf width mask word ⌝ }
 {
-    answer(refusal(width, mask, word), compress(mask, word))
+    answer(refusal(width, mask, word), gather_64(mask, word))
 }
 
 // The bits of the word from the right, taken in order to the marked places, zeros elsewhere.
 pub fn scatter(width: u32, mask: u64, word: u64) -> Gathered
     ensures { λ r. ⌜ r ≡ answerOf scatterOf width mask word ⌝ }
 {
-    answer(refusal(width, mask, word), expand(mask, word))
+    answer(refusal(width, mask, word), scatter_64(mask, word))
 }
 
 // The marked bits of the word in order, and above them the unmarked ones in order.
 pub fn group(width: u32, mask: u64, word: u64) -> Gathered
     ensures { λ r. ⌜ r ≡ answerOf groupOf width mask word ⌝ }
 {
-    answer(refusal(width, mask, word), group_bits(mask, word))
+    answer(refusal(width, mask, word), group_64(mask, word))
 }

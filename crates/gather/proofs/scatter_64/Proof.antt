@@ -1,12 +1,12 @@
--- `gather::expand` meets its contract: with i moves left to undo, each bit is where its place's bit would be after i moves.
+-- `gather::scatter_64` meets its contract: with i moves left to undo, each bit is where its place's bit would be after i moves.
 -- Assumes nothing.
 use mathlib.Core.Path.{_≡_}
 use Prim.Native.Nat.{_≤_, _<_, _+_, _-_}
 use native.Mathlib.Omega.{arith}
 use borrow.Author.Needs.{needs}
 use Rattle.gather.proofs.BitRoutes.{Pulled, pulled-all, pulled-next, pulled-none, distance, distance-lt}
-use Rattle.gather.proofs.expand.Statement.{statement}
-use Rattle.gather.proofs.expand.Tie as tie
+use Rattle.gather.proofs.scatter_64.Statement.{statement}
+use Rattle.gather.proofs.scatter_64.Tie as tie
 
 abbrev Inv-loop : tie.InvT-loop
 Inv-loop mask word words out₀ i₀ out i = (i ≤ 6) × Pulled mask word i out
@@ -50,8 +50,8 @@ returns c =
     let e : c .before .loop .i ≡ 0 = omega arith in
     pulled-none _ _ (rw e at (c .before .loop .inv .1)) (search needs)
 
-pub expand-spec : {M : Type 1} → statement M
-expand-spec =
+pub scatter-64-spec : {M : Type 1} → statement M
+scatter-64-spec =
     tie.close
     (tie.spec
     Inv-loop

@@ -1,12 +1,12 @@
--- `gather::compress` meets its contract: before turn i, the marked bits are i moves down. Assumes nothing.
+-- `gather::gather_64` meets its contract: before turn i, the marked bits are i moves down. Assumes nothing.
 use mathlib.Core.Path.{_≡_}
 use Prim.Native.Nat.{_≤_, _<_, _-_}
 use native.Mathlib.Omega.{arith}
 use borrow.Author.Needs.{needs}
 use lib.Bits.{bitAnd, and-le-r}
 use Rattle.gather.proofs.BitRoutes.{Pushed, pushed-none, pushed-next, pushed-all, distance, distance-lt}
-use Rattle.gather.proofs.compress.Statement.{statement}
-use Rattle.gather.proofs.compress.Tie as tie
+use Rattle.gather.proofs.gather_64.Statement.{statement}
+use Rattle.gather.proofs.gather_64.Tie as tie
 
 abbrev Inv-loop : tie.InvT-loop
 Inv-loop mask word words out₀ i₀ out i = (i ≤ 6) × Pushed mask (bitAnd word mask) i out
@@ -49,8 +49,8 @@ returns c =
     let e : c .before .loop .i ≡ 6 = omega arith in
     pushed-all _ _ (rw e at (c .before .loop .inv .1))
 
-pub compress-spec : {M : Type 1} → statement M
-compress-spec =
+pub gather-64-spec : {M : Type 1} → statement M
+gather-64-spec =
     tie.close
     (tie.spec
     Inv-loop
