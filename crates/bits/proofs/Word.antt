@@ -102,7 +102,7 @@ ext (suc w) {x} {y} hx hy e =
     let z : x % 2 ≡ y % 2 = sym (bit-zero x) ∙ e 0 (omega arith) ∙ bit-zero y in
     omega (arith, h, z)
 
-below-pow : (n : ℕ) → n < 2 ^ n
+pub below-pow : (n : ℕ) → n < 2 ^ n
 below-pow zero = omega arith
 below-pow (suc n) = omega (arith, below-pow n, pow-suc 2 n)
 

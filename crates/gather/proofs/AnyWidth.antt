@@ -14,9 +14,12 @@ use Rattle.bits.proofs.Places.{pick-append, length-marked, unmarked-not, pick-m
 use Rattle.gather.specs.Gather.{gatherOf, scatterOf, groupOf}
 
 module _ (m x : ℕ) where
-  pub gather-lt : (w : ℕ) → gatherOf w m x < 2 ^ w
+  pub gather-count : (w : ℕ) → gatherOf w m x < 2 ^ rank m w
   unfolding gatherOf
-  gather-lt w = omega (arith, pick-marked-lt m w x, pow-mono (rank-le m w))
+  gather-count w = pick-marked-lt m w x
+
+  pub gather-lt : (w : ℕ) → gatherOf w m x < 2 ^ w
+  gather-lt w = omega (arith, gather-count w, pow-mono (rank-le m w))
 
   pub scatter-lt : (w : ℕ) → scatterOf w m x < 2 ^ w
   unfolding scatterOf
@@ -57,9 +60,6 @@ group-at-width w m x h l k =
     let upper = gather-wider w ((2 ^ 64 - 1) - m) x h (λ p b. omega (arith, bit-above p k b)) in
     group-split 64 m x (omega arith) f ∙ rw (upper, rank-wider l h, gather-at-width w m x h l) (sym (group-split w m x h f))
 
-times-small : (a n : ℕ) → a * n < n → a ≡ 0
-times-small a n h = lt-one (lt-of-mul-lt-mul-right n {m = a} {n = 1} (rw one-mul h))
-
 module _ (m x : ℕ) (l : m < 2 ^ 64) where
   upper-lt : gatherOf 64 ((2 ^ 64 - 1) - m) x * 2 ^ rank m 64 < 2 ^ 64
   unfolding gatherOf
@@ -67,14 +67,10 @@ module _ (m x : ℕ) (l : m < 2 ^ 64) where
       let s : rank ((2 ^ 64 - 1) - m) 64 + rank m 64 ≡ 64 = omega (arith, rank-not 64 l 64 (omega arith)) in
       rw s at (shl-lt (rank ((2 ^ 64 - 1) - m) 64) (rank m 64) (pick-marked-lt ((2 ^ 64 - 1) - m) 64 x))
 
-  -- the code's sum
-  pub group-sum : {a k b : ℕ} → a ≡ gatherOf 64 m x → k ≡ rank m 64 → b ≡ gatherOf 64 ((2 ^ 64 - 1) - m) x
-      → a + b * 2 ^ k % 2 ^ 64 ≡ groupOf 64 m x
-  group-sum p k q = rw (p, k, q, mod-eq-of-lt upper-lt, group-split 64 m x (omega arith) l) (omega arith)
+  -- the code's values: the unmarked bits gathered, and the marked ones below them
 
-  -- with all 64 places marked, gather is group
-  pub group-all : {a k : ℕ} → a ≡ gatherOf 64 m x → k ≡ rank m 64 → k ≡ 64 → a ≡ groupOf 64 m x
-  group-all p e z =
-      let r : rank m 64 ≡ 64 = omega arith in
-      let u = times-small (gatherOf 64 ((2 ^ 64 - 1) - m) x) (2 ^ 64) (rw r at upper-lt) in
-      p ∙ sym (group-split 64 m x (omega arith) l ∙ rw (u, zero-mul, zero-add))
+  pub group-fits : {u : ℕ} → u ≡ gatherOf 64 ((2 ^ 64 - 1) - m) x → u * 2 ^ rank m 64 < 2 ^ 64
+  group-fits e = rw e upper-lt
+
+  pub group-sum : {u r : ℕ} → u ≡ gatherOf 64 ((2 ^ 64 - 1) - m) x → r ≡ u * 2 ^ rank m 64 + gatherOf 64 m x → r ≡ groupOf 64 m x
+  group-sum e f = rw (f, e) (sym (group-split 64 m x (omega arith) l))

@@ -1,5 +1,9 @@
 pub mod AnyWidth
 pub mod MaskAnswers
 pub mod Theorems
-pub mod Gaps
-pub mod BitRoutes
+pub mod Halves
+pub mod Parts
+pub mod Counting
+pub mod Moving
+pub mod Bytes
+pub mod Joining

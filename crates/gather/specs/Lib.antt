@@ -1,2 +1,2 @@
 pub mod Gather
-pub mod Moves
+pub mod Parts

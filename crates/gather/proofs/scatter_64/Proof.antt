@@ -1,68 +1,26 @@
--- `gather::scatter_64` meets its contract: with i moves left to undo, each bit is where its place's bit would be after i moves.
--- Assumes nothing.
-use mathlib.Core.Path.{_≡_}
-use Prim.Native.Nat.{_≤_, _<_, _+_, _-_}
-use native.Mathlib.Omega.{arith}
+-- `gather::scatter_64` meets its contract: the bits are dealt to the bytes, and scattered within each. Assumes nothing.
+use mathlib.Core.Path.{_∙_, ap}
 use borrow.Author.Needs.{needs}
-use Rattle.gather.proofs.BitRoutes.{Pulled, pulled-all, pulled-next, pulled-none, distance, distance-lt}
+use Rattle.gather.specs.declared.Levels.{Levels}
+use Rattle.gather.specs.Parts.{levelsOf, scatterParts}
+use Rattle.gather.proofs.Joining.{scatter-dealt}
 use Rattle.gather.proofs.scatter_64.Statement.{statement}
 use Rattle.gather.proofs.scatter_64.Tie as tie
 
-abbrev Inv-loop : tie.InvT-loop
-Inv-loop mask word words out₀ i₀ out i = (i ≤ 6) × Pulled mask word i out
+levels-of-requires : tie.Need-levels-of-requires
+levels-of-requires c κs = search needs
 
-abbrev μ-loop : tie.MeasureT-loop
-μ-loop mask word words out₀ i₀ out i = i
+deal-requires : tie.Need-deal-requires
+unfolding levelsOf
+deal-requires c κs = ap (λ (l : Levels). l .counts) (c .levels-of .ensures)
 
-moves-requires : tie.Need-moves-requires Inv-loop μ-loop
-moves-requires c κs = search needs
+scatter-bytes-requires : tie.Need-scatter-bytes-requires
+scatter-bytes-requires c κs = search needs
 
-loop-holds : tie.Need-loop-holds Inv-loop μ-loop
-loop-holds c = (search needs, pulled-all)
-
-sub-i : tie.Need-sub-i Inv-loop μ-loop
-sub-i c = search needs
-
-shl-out : tie.Need-shl-out Inv-loop μ-loop
-shl-out c = search needs
-
-shl-out-2 : tie.Need-shl-out-2 Inv-loop μ-loop
-shl-out-2 c = distance-lt (c .before .loop .i - 1) (search needs)
-
-mul-out : tie.Need-mul-out Inv-loop μ-loop
-mul-out c = search needs
-
-array-read-out : tie.Need-array-read-out Inv-loop μ-loop
-array-read-out c = search needs
-
-loop-less : tie.Need-loop-less Inv-loop μ-loop
-loop-less c = search needs
-
-loop-again : tie.Need-loop-again Inv-loop μ-loop
-loop-again c =
-    let l = c .before .loop in
-    let h : l .i - 1 < 6 = search needs in
-    let e : l .i - 1 + 1 ≡ l .i = search needs in
-    (search needs, pulled-next e (l .inv .1) (c .before .before .moves .ensures .move (l .i - 1) h) (distance (l .i - 1) h))
-
-returns : tie.Need-returns Inv-loop μ-loop
+returns : tie.Need-returns
 returns c =
-    let e : c .before .loop .i ≡ 0 = omega arith in
-    pulled-none _ _ (rw e at (c .before .loop .inv .1)) (search needs)
+    let a = c .before .before .before .args in
+    c .scatter-bytes .ensures ∙ ap (scatterParts 8 8 (a .mask)) (c .before .deal .ensures) ∙ scatter-dealt 8 (a .mask) (a .word)
 
 pub scatter-64-spec : {M : Type 1} → statement M
-scatter-64-spec =
-    tie.close
-    (tie.spec
-    Inv-loop
-    μ-loop
-    moves-requires
-    loop-holds
-    sub-i
-    shl-out
-    shl-out-2
-    mul-out
-    array-read-out
-    loop-less
-    loop-again
-    returns)
+scatter-64-spec = tie.close (tie.spec levels-of-requires deal-requires scatter-bytes-requires returns)
