@@ -1,6 +1,6 @@
 //! The library's call beside its peers: checks, times and prints them.
 
-use crate::timing::{inputs, medians, Calls, INPUTS};
+use crate::timing::{inputs, medians, Calls};
 use conformance::samples::Random;
 use std::fmt::Debug;
 use std::iter::zip;
@@ -34,7 +34,7 @@ impl<I: 'static, O: Debug + PartialEq> Contest<I, O> {
         make: impl Fn(&mut Random) -> I,
         library: impl Fn(&I) -> O + 'static,
     ) -> Self {
-        let inputs = inputs(INPUTS / parts, make);
+        let inputs = inputs(parts, make);
         let outputs = inputs.iter().map(&library).collect();
         let contest = Contest {
             inputs,
@@ -93,9 +93,9 @@ impl<I: 'static, O: Debug + PartialEq> Contest<I, O> {
             let ratio = medians[0] / median;
             let aim = limit.map_or(String::new(), |limit| {
                 let met = if ratio <= limit { "met" } else { "missed" };
-                format!("{limit:>8.1} {met}")
+                format!("{limit:>8.2} {met}")
             });
-            let line = format!("{call:<18} {name:<34} {time:>8.2} {ratio:>13.2} {aim}");
+            let line = format!("{call:<26} {name:<34} {time:>8.2} {ratio:>13.2} {aim}");
             println!("{}", line.trim_end());
         }
     }
@@ -111,5 +111,5 @@ fn apart<I, O>(call: &impl Fn(&I) -> O, input: &I) -> O {
 /// Prints what stands over the lines.
 pub fn print_heading() {
     let [call, name, time, ratio, limit] = ["call", "by", "ns/call", "library/this", "at most"];
-    println!("{call:<18} {name:<34} {time:>8} {ratio:>13} {limit:>8}");
+    println!("{call:<26} {name:<34} {time:>8} {ratio:>13} {limit:>8}");
 }

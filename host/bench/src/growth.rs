@@ -1,13 +1,14 @@
-//! Every call of the library on random inputs of several sizes.
+//! Every call of the library on random inputs of several sizes, and runs of each
+//! kind of operation.
 
-use crate::masks::OfMask;
-use crate::networks::{random_controls, Network, Passage, Prepare};
-use crate::packing::{Packing, PACK, UNPACK};
+use crate::masks::{Mask, OfMask};
+use crate::networks::{controls_and_word, random_controls, Network, Passage, Prepare};
+use crate::packing::{Packing, ALL_MARKED, COLOUR, PACK, UNPACK};
 use crate::routing::permutation_by;
 use crate::table::{print_heading, print_line};
-use crate::timing::{inputs, Calls, INPUTS};
+use crate::timing::{inputs, Calls};
 use conformance::low_ones;
-use conformance::programs::{bank, program};
+use conformance::programs::{bank, program, Form, FORMS};
 use conformance::samples::{random_permutation, Random};
 use conformance::unit::lent;
 use std::hint::black_box;
@@ -34,7 +35,7 @@ type BySize = (&'static str, fn(usize) -> Calls);
 const CALL: &str = "call";
 
 /// All calls, by what they may grow with.
-pub const GROWTHS: [Growth; 4] = [
+pub const GROWTHS: [Growth; 5] = [
     Growth {
         name: "by width",
         sizes: &[8, 16, 32, 64],
@@ -78,17 +79,44 @@ pub const GROWTHS: [Growth; 4] = [
         sizes: &[1, 8, 64, 512, 2_048],
         each: "word",
         calls: &[
-            ("pack", |words| packed(words, PACK)),
-            ("unpack", |words| packed(words, UNPACK)),
+            ("pack", |words| packed(words, PACK, COLOUR)),
+            ("unpack", |words| packed(words, UNPACK, COLOUR)),
+            ("pack_random", |words| packed(words, PACK, Random::word)),
+            ("unpack_random", |words| packed(words, UNPACK, Random::word)),
+            ("pack_all_marked", |words| packed(words, PACK, ALL_MARKED)),
+            ("unpack_all_marked", |words| {
+                packed(words, UNPACK, ALL_MARKED)
+            }),
         ],
     },
     Growth {
         name: "by operations",
         sizes: &[1, 4, 16, 64, 256, 1_024],
         each: "operation",
-        calls: &[("run", |operations| {
-            on_bank(operations, |bank, list| tb_run(bank, list, u32::MAX))
-        })],
+        calls: &[("run", |operations| ran(operations, program))],
+    },
+    Growth {
+        name: "run by kind",
+        sizes: &[1_024],
+        each: "operation",
+        calls: &[
+            ("run_kind_1", ran_of_kind::<1>),
+            ("run_kind_2", ran_of_kind::<2>),
+            ("run_kind_3", ran_of_kind::<3>),
+            ("run_kind_4", ran_of_kind::<4>),
+            ("run_kind_5", ran_of_kind::<5>),
+            ("run_kind_6", ran_of_kind::<6>),
+            ("run_kind_7", ran_of_kind::<7>),
+            ("run_kind_8", ran_of_kind::<8>),
+            ("run_kind_9", ran_of_kind::<9>),
+            ("run_kind_10", ran_of_kind::<10>),
+            // All that decode nothing for later operations.
+            ("run_kinds_1_to_7_and_10", |operations| {
+                ran(operations, |random, operations| {
+                    program_of(random, |kind| kind != 8 && kind != 9, operations)
+                })
+            }),
+        ],
     },
     Growth {
         name: "of one size",
@@ -96,15 +124,15 @@ pub const GROWTHS: [Growth; 4] = [
         each: CALL,
         calls: &[
             ("operate", |_| {
-                on_bank(1, |bank, list| {
+                on_bank(1, program, |bank, list| {
                     tb_operate(bank, list[0], list[1], list[2], list[3])
                 })
             }),
             ("write", |_| {
-                on_bank(1, |bank, list| tb_write(bank, list[0], 1))
+                on_bank(1, program, |bank, list| tb_write(bank, list[0], 1))
             }),
             // What the timing takes of that: a fresh bank, and of all calls.
-            ("bank", |_| on_bank(1, |_, _| ())),
+            ("bank", |_| on_bank(1, program, |_, _| ())),
             ("read", |_| calls(1, random_bank, |bank| tb_read(bank, 1))),
             ("nothing", |_| calls(1, random_bank, |_| ())),
         ],
@@ -125,28 +153,28 @@ impl Growth {
         }
     }
 
-    /// The names of its calls, each with how it is made on the largest inputs.
-    fn largest(&self) -> impl Iterator<Item = (&'static str, impl Fn() -> Calls)> {
-        let size = self.sizes.iter().copied().max().unwrap_or(1);
-        let largest = move |&(name, calls): &BySize| (name, move || calls(size));
-        self.calls.iter().map(largest)
+    /// The call of this name, on inputs of this one of its sizes or else the
+    /// largest.
+    fn by_name(&self, name: &str, size: Option<usize>) -> Option<Calls> {
+        let (_, calls) = self.calls.iter().find(|(found, _)| *found == name)?;
+        let mut sizes = self.sizes.iter().copied();
+        let size = match size {
+            Some(size) => sizes.find(|&found| found == size),
+            None => sizes.max(),
+        };
+        size.map(calls)
     }
 }
 
 /// The names of all calls.
 pub fn names() -> impl Iterator<Item = &'static str> {
-    all_largest().map(|(name, _)| name)
+    let calls = GROWTHS.iter().flat_map(|growth| growth.calls);
+    calls.map(|(name, _)| *name)
 }
 
-/// The call of this name, on the largest inputs.
-pub fn by_name(name: &str) -> Option<Calls> {
-    let mut all = all_largest();
-    all.find(|&(found, _)| found == name)
-        .map(|(_, calls)| calls())
-}
-
-fn all_largest() -> impl Iterator<Item = (&'static str, impl Fn() -> Calls)> {
-    GROWTHS.iter().flat_map(Growth::largest)
+/// The call of this name, on inputs of this one of its sizes or else the largest.
+pub fn by_name(name: &str, size: Option<usize>) -> Option<Calls> {
+    GROWTHS.iter().find_map(|growth| growth.by_name(name, size))
 }
 
 /// Calls on inputs of so many parts.
@@ -155,7 +183,7 @@ fn calls<I: 'static, A>(
     make: impl Fn(&mut Random) -> I,
     call: impl Fn(&I) -> A + 'static,
 ) -> Calls {
-    Calls::new(&inputs((INPUTS / parts).max(2), make), call)
+    Calls::new(&inputs(parts, make), call)
 }
 
 fn masked(width: usize, call: OfMask) -> Calls {
@@ -167,10 +195,7 @@ fn masked(width: usize, call: OfMask) -> Calls {
 
 fn carried(width: usize, call: Network) -> Calls {
     let width = width as u32;
-    let make = |random: &mut Random| {
-        let word = random.word() & low_ones(width);
-        (random_controls(random, width), word)
-    };
+    let make = |random: &mut Random| controls_and_word(random, width);
     calls(1, make, move |(controls, word)| {
         call(width, controls, *word)
     })
@@ -185,8 +210,8 @@ fn prepared(width: usize, call: Prepare) -> Calls {
 fn passed(width: usize, prepare: Prepare, call: Passage) -> Calls {
     let width = width as u32;
     let make = |random: &mut Random| {
-        let word = random.word() & low_ones(width);
-        (prepare(width, &random_controls(random, width)).swaps, word)
+        let (controls, word) = controls_and_word(random, width);
+        (prepare(width, &controls).swaps, word)
     };
     calls(1, make, move |(swaps, word)| call(swaps, *word))
 }
@@ -205,8 +230,8 @@ fn by_network(network: Network) -> impl Fn(&mut Random, u32) -> Vec<u8> {
     move |random, width| permutation_by(random, network, width)
 }
 
-fn packed(words: usize, packing: Packing) -> Calls {
-    let make = |random: &mut Random| packing.lists(random, words);
+fn packed(words: usize, packing: Packing, mask: Mask) -> Calls {
+    let make = |random: &mut Random| packing.lists(random, mask, words);
     calls(words, make, move |lists| packing.on(lists))
 }
 
@@ -214,8 +239,38 @@ fn random_bank(random: &mut Random) -> TbBank {
     lent(&bank(random))
 }
 
+/// So many operations, in bytes.
+type Program = fn(&mut Random, u32) -> Vec<u8>;
+
+fn ran(operations: usize, program: Program) -> Calls {
+    on_bank(operations, program, |bank, list| {
+        tb_run(bank, list, u32::MAX)
+    })
+}
+
+fn ran_of_kind<const KIND: u8>(operations: usize) -> Calls {
+    ran(operations, |random, operations| {
+        program_of(random, |kind| kind == KIND, operations)
+    })
+}
+
+/// So many operations of these kinds. The upper registers are only read: they keep
+/// the lower ones, which are written, from ending in zeros.
+fn program_of(random: &mut Random, of: fn(u8) -> bool, operations: u32) -> Vec<u8> {
+    let forms: Vec<&Form> = FORMS.iter().filter(|form| of(form.kind)).collect();
+    let mut operation = |_| {
+        let registers = [8, 16, 16].map(|bound| random.below(bound) as u8);
+        random.pick(&forms).operation(registers)
+    };
+    (0..operations).flat_map(&mut operation).collect()
+}
+
 /// A call of a bank, fresh each time, and of a list of so many operations.
-fn on_bank<A>(operations: usize, call: impl Fn(&mut TbBank, &[u8]) -> A + 'static) -> Calls {
+fn on_bank<A>(
+    operations: usize,
+    program: Program,
+    call: impl Fn(&mut TbBank, &[u8]) -> A + 'static,
+) -> Calls {
     let make = |random: &mut Random| {
         let list = program(random, operations as u32);
         (random_bank(random), list)

@@ -1,5 +1,5 @@
-//! Times the library's calls beside peers in plain Rust, and by the size of
-//! their inputs.
+//! Times the library's calls beside peers in plain Rust, by the size of their
+//! inputs, and runs by the kind of their operations.
 //!
 //! `cargo run --release --offline -p bench` runs every bench; an argument
 //! picks those whose name contains it.
@@ -8,9 +8,10 @@
 //! timing loop. A peer is kept out of it likewise: what is compared is one call
 //! with one call.
 //!
-//! `-p bench -- count CALL CALLS` times nothing: it makes the call so many times
-//! on its largest random inputs, which are made even if that is 0, for a tool
-//! that counts instructions. `-p bench -- count` prints the names of the calls.
+//! `-p bench -- count CALL CALLS [SIZE]` times nothing: it makes the call so many
+//! times on random inputs of this one of its sizes or else the largest, which are
+//! made even if that is 0, for a tool that counts instructions. `-p bench -- count`
+//! prints the names of the calls.
 
 mod bmi2;
 mod contest;
@@ -27,15 +28,17 @@ use growth::GROWTHS;
 use std::env;
 use std::process::ExitCode;
 
-/// The width of every contest.
+/// The width of every contest that names no other.
 const WIDTH: u32 = 64;
 
 /// A contest runs the call of its name.
 type Bench = (&'static str, fn(&str));
 
-const CONTESTS: [Bench; 13] = [
+const CONTESTS: [Bench; 15] = [
     ("butterfly", networks::butterfly),
     ("inverse", networks::inverse),
+    ("prepare_butterfly", networks::prepare_butterfly),
+    ("prepare_inverse", networks::prepare_inverse),
     ("butterfly_prepared", networks::butterfly_prepared),
     ("inverse_prepared", networks::inverse_prepared),
     ("decode", networks::decode),
@@ -61,12 +64,13 @@ fn main() -> ExitCode {
             Some(())
         }
         [wanted] => run(wanted),
-        ["count", call, calls] => count(call, calls),
+        ["count", call, calls] => count(call, calls, None),
+        ["count", call, calls, size] => count(call, calls, Some(size)),
         _ => None,
     };
     if done.is_none() {
         eprintln!(
-            "usage: bench [NAME | count [CALL CALLS]]; there are {}",
+            "usage: bench [NAME | count [CALL CALLS [SIZE]]]; there are {}",
             names().join(", ")
         );
         return ExitCode::FAILURE;
@@ -103,8 +107,9 @@ fn run(wanted: &str) -> Option<()> {
 }
 
 /// Makes this call so many times, if there is such a call.
-fn count(call: &str, calls: &str) -> Option<()> {
+fn count(call: &str, calls: &str, size: Option<&str>) -> Option<()> {
     let calls = calls.parse().ok()?;
-    growth::by_name(call)?.make(calls);
+    let size = size.map(str::parse).transpose().ok()?;
+    growth::by_name(call, size)?.make(calls);
     Some(())
 }

@@ -3,7 +3,7 @@
 use crate::bmi2;
 use crate::contest::Contest;
 use crate::table::{print_heading, print_line};
-use crate::timing::{inputs, Calls, INPUTS};
+use crate::timing::{inputs, Calls};
 use crate::WIDTH;
 use conformance::samples::Random;
 use tigbayon::{tb_gather, tb_group, tb_scatter, TbGathered};
@@ -12,7 +12,7 @@ use tigbayon::{tb_gather, tb_group, tb_scatter, TbGathered};
 pub type OfMask = extern "C" fn(u32, u64, u64) -> TbGathered;
 
 /// A sort of mask.
-type Mask = fn(&mut Random) -> u64;
+pub type Mask = fn(&mut Random) -> u64;
 
 const MASKS: [(&str, Mask); 6] = [
     ("0", |_| 0),
@@ -37,7 +37,7 @@ pub fn by_mask() {
     print_heading("by mask", "call", MASKS.map(|(name, _)| name));
     for (name, call) in calls {
         let columns = MASKS.map(|(_, mask)| {
-            let inputs = inputs(INPUTS, |random| (mask(random), random.word()));
+            let inputs = inputs(1, |random| (mask(random), random.word()));
             let calls = Calls::new(&inputs, move |&(mask, word)| call(WIDTH, mask, word));
             (calls, 1)
         });
@@ -47,8 +47,8 @@ pub fn by_mask() {
 
 /// Gather beside its peers.
 pub fn gather(name: &str) {
-    beside_compress(tb_gather, compress)
-        .within(1.1)
+    beside(tb_gather, "Hacker's Delight compress", compress)
+        .within(0.55)
         .peer("bit loop", on_pair(gather_by_loop))
         .peer_if_any("BMI2 instruction", bmi2::pext().map(on_pair))
         .print(name);
@@ -56,8 +56,8 @@ pub fn gather(name: &str) {
 
 /// Scatter beside its peers.
 pub fn scatter(name: &str) {
-    beside_compress(tb_scatter, expand)
-        .within(1.1)
+    beside(tb_scatter, "Hacker's Delight expand", expand)
+        .within(0.6)
         .peer("bit loop", on_pair(scatter_by_loop))
         .peer_if_any("BMI2 instruction", bmi2::pdep().map(on_pair))
         .print(name);
@@ -65,8 +65,10 @@ pub fn scatter(name: &str) {
 
 /// Group beside its peers, each of which gathers twice, and beside gather.
 pub fn group(name: &str) {
+    let by_compress = "two Hacker's Delight compresses";
     let by_pext = bmi2::pext().map(group_by);
-    beside_compress(tb_group, group_by(compress))
+    beside(tb_group, by_compress, group_by(compress))
+        .within(0.55)
         .beside("the library's gather", |&(mask, word)| {
             tb_gather(WIDTH, mask, word)
         })
@@ -81,12 +83,13 @@ trait Peer: Fn(u64, u64) -> u64 + 'static {}
 
 impl<F: Fn(u64, u64) -> u64 + 'static> Peer for F {}
 
-fn beside_compress(library: OfMask, parallel_suffix: impl Peer) -> Contest<(u64, u64), u64> {
+/// The library's call beside its peer of parallel suffixes.
+fn beside(library: OfMask, by: &'static str, peer: impl Peer) -> Contest<(u64, u64), u64> {
     Contest::of(
         |random| (random.word(), random.word()),
         move |&(mask, word)| library(WIDTH, mask, word).word,
     )
-    .peer("Hacker's Delight parallel suffix", on_pair(parallel_suffix))
+    .peer(by, on_pair(peer))
 }
 
 fn on_pair(peer: impl Peer) -> impl Fn(&(u64, u64)) -> u64 {

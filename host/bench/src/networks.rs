@@ -1,12 +1,17 @@
-//! Both networks and the decoder at width 64.
+//! Both networks, preparing them, and the decoder at width 64; the networks below
+//! it, too.
 
 use crate::contest::Contest;
 use crate::WIDTH;
 use conformance::controls::{stages, Controls};
 use conformance::low_ones;
 use conformance::samples::Random;
+use std::fmt::Debug;
 use tigbayon::{tb_butterfly, tb_butterfly_prepared, tb_decode, tb_inverse, tb_inverse_prepared};
 use tigbayon::{tb_prepare_butterfly, tb_prepare_inverse, TbCarried, TbControls2, TbPrepared};
+
+/// The widths below that of the contests.
+const NARROW: [u32; 3] = [8, 16, 32];
 
 /// How many stages a network has.
 pub const STAGES: usize = 6;
@@ -43,6 +48,16 @@ pub fn inverse(name: &str) {
     network::<true>(name, tb_inverse);
 }
 
+/// Preparing the butterfly beside spreading its stages.
+pub fn prepare_butterfly(name: &str) {
+    prepare::<false>(name, tb_prepare_butterfly);
+}
+
+/// Preparing the inverse beside spreading its stages.
+pub fn prepare_inverse(name: &str) {
+    prepare::<true>(name, tb_prepare_inverse);
+}
+
 /// The butterfly, prepared before, beside delta swaps.
 pub fn butterfly_prepared(name: &str) {
     prepared::<false>(name, tb_prepare_butterfly, tb_butterfly_prepared);
@@ -74,11 +89,11 @@ struct Journey {
 impl Journey {
     /// Through a network of rising distances (the inverse) or falling ones.
     fn random<const RISING: bool>(random: &mut Random) -> Self {
-        let controls = random_controls(random, WIDTH);
+        let (controls, word) = controls_and_word(random, WIDTH);
         Journey {
             controls,
             swaps: swaps_of::<RISING>(&controls),
-            word: random.word(),
+            word,
         }
     }
 
@@ -97,6 +112,45 @@ fn network<const RISING: bool>(name: &str, library: Network) {
         delta_swaps::<RISING>(&swaps, journey.word)
     })
     .print(name);
+    below_64(name, controls_and_word, move |width, (controls, word)| {
+        library(width, controls, *word)
+    });
+}
+
+fn prepare<const RISING: bool>(name: &str, library: Prepare) {
+    Contest::of(
+        |random| random_controls(random, WIDTH),
+        move |controls| library(WIDTH, controls),
+    )
+    .peer("spreading six stages", |controls| TbPrepared {
+        refusal: 0,
+        swaps: swaps_of::<RISING>(controls),
+    })
+    .within(1.2)
+    .print(name);
+    below_64(name, random_controls, move |width, controls| {
+        library(width, controls)
+    });
+}
+
+/// The library's call at each narrower width beside the same at width 64, on
+/// inputs of its own.
+fn below_64<I: 'static, O: Debug + PartialEq>(
+    name: &str,
+    make: fn(&mut Random, u32) -> I,
+    library: impl Fn(u32, &I) -> O + Copy + 'static,
+) {
+    for width in NARROW {
+        Contest::of(
+            |random| [width, WIDTH].map(|width| make(random, width)),
+            move |[narrow, _]| library(width, narrow),
+        )
+        .beside("the library at width 64", move |[_, wide]| {
+            library(WIDTH, wide)
+        })
+        .within(1.2)
+        .print(&format!("{name} at {width}"));
+    }
 }
 
 fn prepared<const RISING: bool>(name: &str, prepare: Prepare, library: Passage) {
@@ -121,6 +175,12 @@ pub fn random_controls(random: &mut Random, width: u32) -> Controls {
         *stage = (random.word() & low_ones(width / 2)) as u32;
     }
     controls
+}
+
+/// The same, and a word of the width.
+pub fn controls_and_word(random: &mut Random, width: u32) -> (Controls, u64) {
+    let word = random.word() & low_ones(width);
+    (random_controls(random, width), word)
 }
 
 /// The base-two logarithm of a stage's distance.

@@ -1,8 +1,8 @@
-//! Packing words of 12-bit colour, each word timed.
+//! Packing words of 12-bit colour, by random masks, and whole; each word timed.
 
 use crate::bmi2;
 use crate::contest::Contest;
-use crate::masks::{compress, compress_by, expand, expand_by, moves};
+use crate::masks::{compress, compress_by, expand, expand_by, moves, Mask};
 use crate::networks::{decoded, delta_swaps, swaps_of};
 use conformance::packing::{words_needed, LONGEST};
 use conformance::samples::{random_words, Random};
@@ -11,7 +11,13 @@ use std::hint::black_box;
 use tigbayon::{tb_pack, tb_unpack};
 
 /// Four colours of 12 bits in places of 16.
-const COLOUR: u64 = 0x0FFF_0FFF_0FFF_0FFF;
+pub const COLOUR: Mask = |_| 0x0FFF_0FFF_0FFF_0FFF;
+
+/// Whole words.
+pub const ALL_MARKED: Mask = |_| u64::MAX;
+
+/// The masks that methods are compared on.
+const MASKS: [(&str, Mask); 2] = [("colour", COLOUR), ("random mask", Random::word)];
 
 /// A call of a mask and two lists of words: packs all words of the first, or unpacks
 /// into all words of the second. It answers the count of bits.
@@ -21,60 +27,68 @@ pub type OfWords = fn(u64, &[u64], &mut [u64]) -> u64;
 #[derive(Clone, Copy)]
 pub struct Packing {
     call: OfWords,
-    /// The lengths of the two lists, for so many fields.
-    lengths: fn(usize) -> (usize, usize),
+    /// The lengths of the two lists, for a mask and so many fields.
+    lengths: fn(u64, usize) -> (usize, usize),
 }
 
 /// Pack.
 pub const PACK: Packing = Packing {
     call: |mask, words, out| tb_pack(mask, words, 0, words.len(), out).bits,
-    lengths: |fields| (fields, words_needed(COLOUR, 0, fields)),
+    lengths: |mask, fields| (fields, words_needed(mask, 0, fields)),
 };
 
 /// Unpack.
 pub const UNPACK: Packing = Packing {
     call: |mask, packed, out| tb_unpack(mask, packed, 0, out.len(), out).bits,
-    lengths: |fields| (words_needed(COLOUR, 0, fields), fields),
+    lengths: |mask, fields| (words_needed(mask, 0, fields), fields),
 };
+
+/// Pack or unpack by other methods, the last of them where the processor has it.
+struct Methods {
+    network: OfWords,
+    moves_for_each: OfWords,
+    moves_once: OfWords,
+    bmi2: Option<OfWords>,
+}
 
 /// Pack beside its peers.
 pub fn pack(name: &str) {
-    let same_method: OfWords = |mask, words, out| {
-        let swaps = swaps_of::<true>(&decoded(mask).inverse);
-        let gather = |word| delta_swaps::<true>(&swaps, word & mask);
-        pack_by(mask, words, out, gather)
-    };
-    let others: [(_, OfWords); 2] = [
-        ("Hacker's Delight for each word", |mask, words, out| {
+    let methods = Methods {
+        network: |mask, words, out| {
+            let swaps = swaps_of::<true>(&decoded(mask).inverse);
+            let gather = |word| delta_swaps::<true>(&swaps, word & mask);
+            pack_by(mask, words, out, gather)
+        },
+        moves_for_each: |mask, words, out| {
             pack_by(mask, words, out, |word| compress(black_box(mask), word))
-        }),
-        ("Hacker's Delight, moves made once", |mask, words, out| {
+        },
+        moves_once: |mask, words, out| {
             let moves = moves(mask);
             pack_by(mask, words, out, |word| compress_by(&moves, mask, word))
-        }),
-    ];
-    let bmi2 = bmi2::pack().map(|pack| ("BMI2 instruction", pack));
-    PACK.contest(name, same_method, others.into_iter().chain(bmi2));
+        },
+        bmi2: bmi2::pack(),
+    };
+    PACK.contests(name, &methods);
 }
 
 /// Unpack beside its peers.
 pub fn unpack(name: &str) {
-    let same_method: OfWords = |mask, packed, out| {
-        let swaps = swaps_of::<false>(&decoded(mask).butterfly);
-        let scatter = |field| delta_swaps::<false>(&swaps, field) & mask;
-        unpack_by(mask, packed, out, scatter)
-    };
-    let others: [(_, OfWords); 2] = [
-        ("Hacker's Delight for each word", |mask, packed, out| {
+    let methods = Methods {
+        network: |mask, packed, out| {
+            let swaps = swaps_of::<false>(&decoded(mask).butterfly);
+            let scatter = |field| delta_swaps::<false>(&swaps, field) & mask;
+            unpack_by(mask, packed, out, scatter)
+        },
+        moves_for_each: |mask, packed, out| {
             unpack_by(mask, packed, out, |field| expand(black_box(mask), field))
-        }),
-        ("Hacker's Delight, moves made once", |mask, packed, out| {
+        },
+        moves_once: |mask, packed, out| {
             let moves = moves(mask);
             unpack_by(mask, packed, out, |field| expand_by(&moves, mask, field))
-        }),
-    ];
-    let bmi2 = bmi2::unpack().map(|unpack| ("BMI2 instruction", unpack));
-    UNPACK.contest(name, same_method, others.into_iter().chain(bmi2));
+        },
+        bmi2: bmi2::unpack(),
+    };
+    UNPACK.contests(name, &methods);
 }
 
 /// A mask, a first list of words, and a second one that every contender writes
@@ -103,38 +117,83 @@ impl Packing {
         lists.call(self.call)
     }
 
-    /// Lists of so many fields.
-    pub fn lists(&self, random: &mut Random, fields: usize) -> WordLists {
-        let (first, second) = (self.lengths)(fields);
+    /// Lists of so many fields, by such a mask.
+    pub fn lists(&self, random: &mut Random, mask: Mask, fields: usize) -> WordLists {
+        let mask = mask(random);
+        let (first, second) = (self.lengths)(mask, fields);
         WordLists {
-            mask: COLOUR,
+            mask,
             first: random_words(random, first),
             second: RefCell::new(vec![0; second]),
         }
     }
 
-    /// Checks each peer's words here, its count of bits in the contest.
-    fn contest(
-        self,
-        name: &str,
-        same_method: OfWords,
-        others: impl Iterator<Item = (&'static str, OfWords)>,
-    ) {
-        let sample = self.lists(&mut Random::default(), LONGEST);
-        let expected = sample.outcome(self.call);
-        let checked = |peer| {
-            assert!(sample.outcome(peer) == expected, "peers pack alike");
-            move |lists: &WordLists| lists.call(peer)
-        };
-        let lists = |random: &mut Random| self.lists(random, LONGEST);
-        let mut contest = Contest::of_parts(LONGEST, lists, move |lists| self.on(lists))
-            .peer("the same method", checked(same_method))
-            .within(1.2);
-        for (name, peer) in others {
-            contest = contest.peer(name, checked(peer));
+    /// The call beside the methods, and beside a copy where that is all there is
+    /// to do.
+    fn contests(self, name: &str, methods: &Methods) {
+        for (sort, mask) in MASKS {
+            let sample = Sample::of(self, mask);
+            let bmi2 = methods.bmi2.map(|bmi2| sample.checked(bmi2));
+            self.contest(mask)
+                .peer(
+                    "a prepared network in Rust",
+                    sample.checked(methods.network),
+                )
+                .peer(
+                    "Hacker's Delight for each word",
+                    sample.checked(methods.moves_for_each),
+                )
+                .peer(
+                    "Hacker's Delight, moves made once",
+                    sample.checked(methods.moves_once),
+                )
+                .within(1.0)
+                .peer_if_any("BMI2 instruction", bmi2)
+                .print(&format!("{name} a word, {sort}"));
         }
-        contest.print(&format!("{name}, per word"));
+        self.contest(ALL_MARKED)
+            .peer(
+                "a copy of the words",
+                Sample::of(self, ALL_MARKED).checked(copied),
+            )
+            .print(&format!("{name} a word, all marked"));
     }
+
+    /// The call, on the longest lists.
+    fn contest(self, mask: Mask) -> Contest<WordLists, u64> {
+        let lists = |random: &mut Random| self.lists(random, mask, LONGEST);
+        Contest::of_parts(LONGEST, lists, move |lists| self.on(lists))
+    }
+}
+
+/// Lists, and what the library's call answers and makes of them: a contest checks
+/// only the count of bits.
+struct Sample {
+    lists: WordLists,
+    expected: (u64, Vec<u64>),
+}
+
+impl Sample {
+    fn of(packing: Packing, mask: Mask) -> Self {
+        let lists = packing.lists(&mut Random::default(), mask, LONGEST);
+        let expected = lists.outcome(packing.call);
+        Sample { lists, expected }
+    }
+
+    /// A peer, which must answer and write as the library does.
+    fn checked(&self, peer: OfWords) -> impl Fn(&WordLists) -> u64 + 'static {
+        assert!(
+            self.lists.outcome(peer) == self.expected,
+            "peers pack alike"
+        );
+        move |lists| lists.call(peer)
+    }
+}
+
+/// Packs or unpacks whole words.
+fn copied(_: u64, words: &[u64], out: &mut [u64]) -> u64 {
+    out.copy_from_slice(words);
+    64 * words.len() as u64
 }
 
 /// Appends field after field, each gathered from its word.

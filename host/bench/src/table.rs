@@ -8,7 +8,7 @@ use std::iter::zip;
 /// Prints what stands over the lines: what the nanoseconds are by and of, and
 /// the columns.
 pub fn print_heading(by: &str, each: &str, columns: impl IntoIterator<Item = impl Display>) {
-    print!("\n{:<26}", format!("{by}, ns/{each}"));
+    print!("\n{:<28}", format!("{by}, ns/{each}"));
     for column in columns {
         print!(" {column:>8}");
     }
@@ -21,7 +21,7 @@ pub fn print_line(name: &str, columns: &[(Calls, usize)]) {
     let medians = medians(columns.iter().map(|(calls, _)| calls));
     let times = zip(columns, medians).map(|((_, parts), median)| median / *parts as f64);
     let times: Vec<f64> = times.collect();
-    print!("{name:<26}");
+    print!("{name:<28}");
     for time in &times {
         print!(" {time:>8.2}");
     }

@@ -8,7 +8,10 @@ use std::time::{Duration, Instant};
 
 /// How many inputs, or parts of inputs, a round goes through: too many for the
 /// processor to learn what comes.
-pub const INPUTS: usize = 4096;
+const INPUTS: usize = 4096;
+
+/// How many inputs it goes through at least, however many parts they have.
+const FEWEST: usize = 16;
 
 /// How many rounds the median is taken of, at least.
 const ROUNDS: u32 = 101;
@@ -16,9 +19,10 @@ const ROUNDS: u32 = 101;
 /// How long the rounds go on, at least.
 const LEAST: Duration = Duration::from_millis(400);
 
-/// So many random inputs, the same in every run.
-pub fn inputs<I>(count: usize, make: impl Fn(&mut Random) -> I) -> Rc<[I]> {
+/// Random inputs of so many parts each, the same in every run.
+pub fn inputs<I>(parts: usize, make: impl Fn(&mut Random) -> I) -> Rc<[I]> {
     let mut random = Random::default();
+    let count = (INPUTS / parts).max(FEWEST);
     (0..count).map(|_| make(&mut random)).collect()
 }
 
