@@ -17,6 +17,9 @@ pub struct Gathered {
 fn refusal(width: u32, mask: u64, word: u64) -> u8
     ensures { λ r. ⌜ r ≡ refusalOf width mask word ⌝ }
 {
+    if width == 64 {
+        return bits::CARRIED_OUT;
+    }
     if bits::log_of(width) == 0 {
         return bits::WIDTH;
     }
