@@ -8,10 +8,10 @@ gather-64-requires : tie.Need-gather-64-requires
 gather-64-requires c κs = search needs
 
 gather-below-requires : tie.Need-gather-below-requires
-gather-below-requires c κs = group-fits _ _ (search needs) (c .gather-64 .ensures)
+gather-below-requires c κs = let a = c .before .args in group-fits (a .mask) (a .word) (search needs) (c .gather-64 .ensures)
 
 returns : tie.Need-returns
-returns c = group-sum _ _ (search needs) (c .before .gather-64 .ensures) (c .gather-below .ensures)
+returns c = let a = c .before .before .args in group-sum (a .mask) (a .word) (search needs) (c .before .gather-64 .ensures) (c .gather-below .ensures)
 
 pub group-64-spec : {M : Type 1} → statement M
 group-64-spec = tie.close (tie.spec gather-64-requires gather-below-requires returns)
