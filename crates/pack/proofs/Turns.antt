@@ -3,20 +3,20 @@ use mathlib.Core.Path.{_≡_, refl, sym, _∙_, ap, ap₂}
 use mathlib.Core.List.{List}
 use Prim.Native.Nat.{ℕ, zero, suc, _+_, _-_, _*_, _/_, _%_, _^_, _<_, _≤_}
 use native.Mathlib.Omega.{arith}
+use native.Mathlib.Decide.{ℕ-discrete}
 use native.Mathlib.Nat.{mul-le-mul-left}
 use lib.Arith.{digits-lt, digits-div, digits-mod}
 use lib.ListN.{length, getD, set, length-map}
-use borrow.Author.Tests.{lt-ltb, le-ltb}
+use borrow.Author.Tests.{lt-ltb, le-ltb, eq-eqb, ne-eqb}
 use Rattle.bits.specs.Bit.{bit, ofBits}
 use Rattle.bits.proofs.Word.{bit-mod-two, bit-ofBits, ofBits-lt, ofBits-add, ext}
 use Rattle.bits.proofs.Places.{pick-marked-lt}
 use Rattle.gather.specs.Gather.{gatherOf, scatterOf}
-use Rattle.network.proofs.Filling.{map-at}
 use Rattle.pack.specs.declared.Cursor.{Cursor}
 use Rattle.pack.specs.declared.Taken.{Taken}
 use Rattle.pack.specs.Fields.{sizeOf, needed, fieldsOf, streamBit, streamOf, wordAt, packInto, scatteredAt, overwritten}
-use Rattle.pack.specs.Cursor.{cursorStart, Holds, Puts, Awaits, Takes}
-use Rattle.pack.proofs.FilledLists.{length-overwritten, fill-none, fill-next}
+use Rattle.pack.specs.Cursor.{cursorStart, Holds, Puts, finished, Awaits, Takes}
+use Rattle.pack.proofs.FilledLists.{length-overwritten, fill-none, fill-next, map-at}
 use Rattle.pack.proofs.Reading.{scatter-read}
 
 -- the stream of a list of fields
@@ -58,7 +58,7 @@ module _ (m : ℕ) (ws old : List ℕ) where
       stream-at (sizeOf m) (fieldsOf m ws) f i (omega (arith, length-map ws (gatherOf 64 m))) l
       ∙ ap (λ (x : ℕ). bit x i) (map-at (gatherOf 64 m) ws f h)
 
-  field-bits : (f : ℕ) → f < length ws → gatherOf 64 m (getD ws f 0) ≡ ofBits (sizeOf m) (λ i. stream (sizeOf m * f + i))
+  pub field-bits : (f : ℕ) → f < length ws → gatherOf 64 m (getD ws f 0) ≡ ofBits (sizeOf m) (λ i. stream (sizeOf m * f + i))
   unfolding gatherOf
   field-bits f h =
       let g : ℕ → ℕ = λ i. stream (sizeOf m * f + i) in
@@ -86,13 +86,6 @@ module _ (m : ℕ) (ws old : List ℕ) where
         )
 
     module _ {c : Cursor} {out : List ℕ} (inv : Holds stream (sizeOf m * length ws) c old out) where
-      -- the last word is full
-      pub pack-whole : c .held ≡ 0 → out ≡ packInto m ws old
-      unfolding packInto
-      pack-whole z =
-          let n : c .word ≡ needed (sizeOf m * length ws) = omega (arith, inv .at) in
-          inv .words ∙ ap (λ (j : ℕ). overwritten j (wordAt stream) old) n
-
       pub last-room : (c .held ≡ 0 → ⊥) → c .word < length out
       last-room z = omega (arith, inv .at, z, length-overwritten (wordAt stream) (c .word) old, ap length (inv .words))
 
@@ -112,12 +105,20 @@ module _ (m : ℕ) (ws old : List ℕ) where
           ∙ ofBits-add (c .held) (64 - c .held) g
           ∙ omega (arith, ap (λ (n : ℕ). n * 2 ^ c .held) z))
 
-      pub pack-last : (c .held ≡ 0 → ⊥) → set out (c .word) (c .pending) ≡ packInto m ws old
+      -- the last word is full, or written now
+      pub pack-finished : finished c out ≡ packInto m ws old
       unfolding packInto
-      pack-last z =
-          let n : c .word + 1 ≡ needed (sizeOf m * length ws) = omega (arith, inv .at, inv .within, z) in
-          fill-next (wordAt stream) (c .word) old (last-room z) (inv .words) last-word
-          ∙ ap (λ (j : ℕ). overwritten j (wordAt stream) old) n
+      pack-finished = by-cases (ℕ-discrete (c .held) 0)
+        where
+          by-cases : Dec (c .held ≡ 0) → finished c out ≡ packInto m ws old
+          by-cases (yes z) =
+              let n : c .word ≡ needed (sizeOf m * length ws) = omega (arith, inv .at) in
+              rw (eq-eqb (c .held) 0 z) (inv .words ∙ ap (λ (j : ℕ). overwritten j (wordAt stream) old) n)
+          by-cases (no z) =
+              let n : c .word + 1 ≡ needed (sizeOf m * length ws) = omega (arith, inv .at, inv .within, z) in
+              rw (ne-eqb (c .held) 0 z)
+              (fill-next (wordAt stream) (c .word) old (last-room z) (inv .words) last-word
+              ∙ ap (λ (j : ℕ). overwritten j (wordAt stream) old) n)
 
 -- Unpacking.
 

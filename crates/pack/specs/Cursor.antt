@@ -1,18 +1,16 @@
--- Where a cursor stands in a stream of bits, and the prepared network of a mask. Internal: no answer of a call cites it; `prepared-gathers`, `prepared-scatters` do. Assumes nothing.
+-- Where a cursor stands in a stream of bits. Internal: no answer of a call cites it. Assumes nothing.
 use mathlib.Core.Path.{_≡_}
+use mathlib.Core.Bool.{cond}
 use mathlib.Core.List.{List}
-use Prim.Native.Nat.{ℕ, _+_, _*_, _<_}
+use Prim.Native.Nat.{ℕ, _+_, _*_, _/_, _^_, _<_}
+use lib.Dec.{eqb}
+use lib.ListN.{getD, set}
 use Rattle.bits.specs.Bit.{bit, ofBits}
-use Rattle.network.specs.Stage.{falling}
-use Rattle.network.specs.Decoder.{decodeOf}
-use Rattle.network.specs.Word.{swapsAt}
+use Rattle.gather.specs.Gather.{gatherOf}
 use Rattle.pack.specs.declared.Cursor.{Cursor}
+use Rattle.pack.specs.declared.Pair.{Pair}
 use Rattle.pack.specs.declared.Taken.{Taken}
 use Rattle.pack.specs.Fields.{overwritten, wordAt, packedBit}
-
--- the swaps of the six stages that the mask routes by
-unfoldable pub routesOf : ℕ → List ℕ
-routesOf m = swapsAt (falling 6) (decodeOf 6 m)
 
 -- nothing written or read
 abbrev pub cursorStart : Cursor
@@ -28,6 +26,24 @@ pub record Holds (s : ℕ → ℕ) (n : ℕ) (c : Cursor) (old out : List ℕ) :
 -- Putting a field moves the cursor on: whatever the stream, if the field is its next `size` bits.
 pub record Puts (c : Cursor) (size field : ℕ) (before : List ℕ) (r : Cursor) (after : List ℕ) : Type 0 where
   pub next : (s : ℕ → ℕ) (n : ℕ) (old : List ℕ) → Holds s n c old before → field ≡ ofBits size (λ i. s (n + i)) → Holds s (n + size) r old after
+
+-- the word begun, if there is one, written
+abbrev pub finished : Cursor → List ℕ → List ℕ
+finished c out = cond (eqb (c .held) 0) out (set out (c .word) (c .pending))
+
+-- the fields of words i and i + 1
+pub record Gathers (m : ℕ) (ws : List ℕ) (i : ℕ) (r : Pair) : Type 0 where
+  pub low : r .low ≡ gatherOf 64 m (getD ws i 0)
+  pub high : r .high ≡ gatherOf 64 m (getD ws (i + 1) 0)
+
+-- The first n words are copied, and are words.
+pub record Copies (n : ℕ) (from before after : List ℕ) : Type 0 where
+  pub words : after ≡ overwritten n (λ i. getD from i 0) before
+  pub fit : (i : ℕ) → i < n → getD from i 0 < 2 ^ 64
+
+-- how many of n words are in pairs
+abbrev pub evenPart : ℕ → ℕ
+evenPart n = n / 2 * 2
 
 -- The n first bits of packed words are taken: those of the last word read that are not are held in the cursor.
 pub record Awaits (ps : List ℕ) (n : ℕ) (c : Cursor) : Type 0 where

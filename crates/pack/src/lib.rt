@@ -3,8 +3,9 @@ ghost use mathlib.Core.Path.{_≡_};
 ghost use Prim.Native.Nat.{_+_, _-_, _*_, _≤_, _<_};
 ghost use lib.ListN.{length};
 ghost use Rattle.gather.specs.Gather.{gatherOf, scatterOf};
-ghost use Rattle.pack.specs.Fields.{sizeOf, needed, packInto, scatteredAt, upTo};
-ghost use Rattle.pack.specs.Cursor.{routesOf, cursorStart, Puts, Takes};
+ghost use Rattle.pack.specs.Fields.{sizeOf, needed, overwritten, streamOf, packInto, scatteredAt, upTo};
+ghost use Rattle.pack.specs.Moves.{Parities, Moves};
+ghost use Rattle.pack.specs.Cursor.{cursorStart, evenPart, Holds, Puts, Gathers, Copies, finished, Awaits, Takes};
 ghost use Rattle.pack.specs.Calls.{fieldsRefusal, fieldsAnswer, packAnswer, packedOut, unpackAnswer, unpackedOut};
 
 // What a call answers: 0 and the count of bits, or the number of the refusal and a zero.
@@ -23,6 +24,12 @@ struct Cursor {
     word: usize,
     held: u64,
     pending: u64,
+}
+
+// The fields of two words.
+struct Pair {
+    low: u64,
+    high: u64,
 }
 
 // A field in the low bits, and the cursor after it.
@@ -66,6 +73,18 @@ impl Cursor {
         }
     }
 
+    // internal: room for the word begun, if there is one. It is written.
+    fn finish(self, out: &mut [u64])
+        requires { ⌜ ((self .held ≡ 0 → ⊥) → self .word < length (now out)) ⌝ }
+        ensures { λ r. ⌜ now (out .exit) ≡ finished self (now (out .entry)) ⌝ }
+    {
+        if self.held == 0 {
+            return;
+        }
+        let word = self.word;
+        out[word] = self.pending;
+    }
+
     // internal: a further word, if the field needs it. The next field is read; the moved cursor comes back with it. Bits of `field` above `size` are
     // not looked at.
     fn take(self, size: u64, packed: &[u64]) -> Taken
@@ -97,27 +116,108 @@ impl Cursor {
     }
 }
 
-// internal: the swaps of the network that routes by the mask, decoded once for any number of words
-fn routes(mask: u64) -> [u64; 6]
-    ensures { λ r. ⌜ r ≡ routesOf mask ⌝ }
+// internal: bit q is the parity of bits 0 to q of x
+fn parities(x: u64) -> u64
+    ensures { λ r. ⌜ Parities x r ⌝ }
 {
-    network::prepare(network::decode_64(mask))
+    let by_2 = x ^ (x << 1);
+    let by_4 = by_2 ^ (by_2 << 2);
+    let by_8 = by_4 ^ (by_4 << 4);
+    let by_16 = by_8 ^ (by_8 << 8);
+    let by_32 = by_16 ^ (by_16 << 16);
+    by_32 ^ (by_32 << 32)
 }
 
-// internal: the routes of the mask. Gather through the inverse butterfly.
-fn gathered(routes: [u64; 6], mask: u64, word: u64) -> u64
-    requires { ⌜ routes ≡ routesOf mask ⌝ }
+// internal: bit q of word i is bit i of the number of unmarked places below q. `ones` has that many ones up to q; a turn clears those
+// of odd number, which halves every count.
+fn moves(mask: u64) -> [u64; 6]
+    ensures { λ r. ⌜ Moves mask 6 r ⌝ }
+{
+    let mut words = [0u64; 6];
+    let mut ones = !mask << 1;
+    let mut i: usize = 0;
+    while i < 6 {
+        let word = parities(ones);
+        words[i] = word;
+        ones &= !word;
+        i += 1;
+    }
+    words
+}
+
+// internal: the moves of the mask. Gather: a marked bit goes down by the number of unmarked places below it, one power of two a turn.
+fn gathered(moves: [u64; 6], mask: u64, word: u64) -> u64
+    requires { ⌜ Moves mask 6 moves ⌝ }
     ensures { λ r. ⌜ r ≡ gatherOf 64 mask word ⌝ }
 {
-    network::inverse_prepared(routes, word & mask)
+    let mut out = word & mask;
+    let mut i: usize = 0;
+    while i < 6 {
+        let moved = out & moves[i];
+        out = (out ^ moved) | (moved >> (1u64 << i));
+        i += 1;
+    }
+    out
 }
 
-// internal: the routes of the mask. Scatter through the butterfly.
-fn scattered(routes: [u64; 6], mask: u64, word: u64) -> u64
-    requires { ⌜ routes ≡ routesOf mask ⌝ }
+// internal: the moves of the mask. Scatter: the same moves upward, from the last.
+fn scattered(moves: [u64; 6], mask: u64, word: u64) -> u64
+    requires { ⌜ Moves mask 6 moves ⌝ }
     ensures { λ r. ⌜ r ≡ scatterOf 64 mask word ⌝ }
 {
-    network::butterfly_prepared(routes, word) & mask
+    let mut out = word;
+    let mut i: usize = 6;
+    while 0 < i {
+        i -= 1;
+        out ^= (out ^ (out << (1u64 << i))) & moves[i];
+    }
+    out & mask
+}
+
+// internal: words i and i + 1, and the moves of the mask. Their fields.
+fn gathered_pair(moves: [u64; 6], mask: u64, words: &[u64], i: usize) -> Pair
+    requires { ⌜ Moves mask 6 moves × (i + 1 < length (now words)) ⌝ }
+    ensures { λ r. ⌜ Gathers mask (now (words .entry)) i r ⌝ }
+{
+    Pair {
+        low: gathered(moves, mask, words[i]),
+        high: gathered(moves, mask, words[i + 1]),
+    }
+}
+
+// internal: fields of 64 bits, which are whole words. The first n words.
+fn copy_words(n: usize, from: &[u64], to: &mut [u64])
+    requires { ⌜ (n ≤ length (now from)) × (n ≤ length (now to)) ⌝ }
+    ensures { λ r. ⌜ Copies n (now (from .entry)) (now (to .entry)) (now (to .exit)) ⌝ }
+{
+    let mut i: usize = 0;
+    while i < n {
+        to[i] = from[i];
+        i += 1;
+    }
+}
+
+// internal: the moves and the size of the mask, and room for the fields. Those of all words but the last of an odd number are put. A pair is gathered
+// before the turn that puts it: so the compiler gathers both words at once.
+fn write_pairs(moves: [u64; 6], mask: u64, size: u64, words: &[u64], out: &mut [u64]) -> Cursor
+    requires { ⌜ Moves mask 6 moves × (size ≡ sizeOf mask) × (needed (sizeOf mask * length (now words)) ≤ length (now out)) ⌝ }
+    ensures { λ r. ⌜ Holds (streamOf mask (now (words .entry))) (sizeOf mask * evenPart (length (now (words .entry)))) r (now (out .entry)) (now (out .exit)) ⌝ }
+{
+    if words.len() < 2 {
+        return Cursor::start();
+    }
+    let mut cursor = Cursor::start();
+    let mut pair = gathered_pair(moves, mask, words, 0);
+    let mut i: usize = 0;
+    loop {
+        let between = cursor.put(size, pair.low, out);
+        cursor = between.put(size, pair.high, out);
+        i += 2;
+        if words.len() < i + 2 {
+            return cursor;
+        }
+        pair = gathered_pair(moves, mask, words, i);
+    }
 }
 
 // internal: room for the fields. The field of each word, one after the other, and zeros up to the end of the last word begun.
@@ -126,18 +226,39 @@ fn write_fields(mask: u64, words: &[u64], out: &mut [u64])
     ensures { λ r. ⌜ now (out .exit) ≡ packInto mask (now (words .entry)) (now (out .entry)) ⌝ }
 {
     let size = bits::count(mask);
-    let swaps = routes(mask);
-    let mut cursor = Cursor::start();
-    let mut i: usize = 0;
-    while i < words.len() {
-        cursor = cursor.put(size, gathered(swaps, mask, words[i]), out);
-        i += 1;
-    }
-    if cursor.held == 0 {
+    let len = words.len();
+    if size == 64 {
+        copy_words(len, words, out);
         return;
     }
-    let word = cursor.word;
-    out[word] = cursor.pending;
+    let moves = moves(mask);
+    let cursor = write_pairs(moves, mask, size, words, out);
+    if len % 2 == 0 {
+        cursor.finish(out);
+        return;
+    }
+    let end = cursor.put(size, gathered(moves, mask, words[len - 1]), out);
+    end.finish(out);
+}
+
+// internal: the moves and the size of the mask, and words enough for the fields. They are scattered into all words of `out` but the last of an odd
+// number, two a turn, which the compiler scatters at once.
+fn read_pairs(moves: [u64; 6], mask: u64, size: u64, packed: &[u64], out: &mut [u64]) -> Cursor
+    requires { ⌜ Moves mask 6 moves × (size ≡ sizeOf mask) × (needed (sizeOf mask * length (now out)) ≤ length (now packed)) ⌝ }
+    ensures { λ r. ⌜ Awaits (now (packed .entry)) (sizeOf mask * evenPart (length (now (out .entry)))) r
+        × (now (out .exit) ≡ overwritten (evenPart (length (now (out .entry)))) (scatteredAt mask (now (packed .entry))) (now (out .entry))) ⌝ }
+{
+    let mut cursor = Cursor::start();
+    let mut i: usize = 0;
+    while i + 1 < out.len() {
+        let low = cursor.take(size, packed);
+        let high = low.next.take(size, packed);
+        cursor = high.next;
+        out[i] = scattered(moves, mask, low.field);
+        out[i + 1] = scattered(moves, mask, high.field);
+        i += 2;
+    }
+    cursor
 }
 
 // internal: words enough for the fields. Each field scattered into a word of `out`.
@@ -146,15 +267,18 @@ fn read_fields(mask: u64, packed: &[u64], out: &mut [u64])
     ensures { λ r. ⌜ now (out .exit) ≡ upTo (length (now (out .entry))) (scatteredAt mask (now (packed .entry))) ⌝ }
 {
     let size = bits::count(mask);
-    let swaps = routes(mask);
-    let mut cursor = Cursor::start();
-    let mut i: usize = 0;
-    while i < out.len() {
-        let taken = cursor.take(size, packed);
-        cursor = taken.next;
-        out[i] = scattered(swaps, mask, taken.field);
-        i += 1;
+    let len = out.len();
+    if size == 64 {
+        copy_words(len, packed, out);
+        return;
     }
+    let moves = moves(mask);
+    let cursor = read_pairs(moves, mask, size, packed, out);
+    if len % 2 == 0 {
+        return;
+    }
+    let taken = cursor.take(size, packed);
+    out[len - 1] = scattered(moves, mask, taken.field);
 }
 
 // internal: fields of at most 64 bits. The lowest refusal of a call, where a and b cut the one of two slices that is `own` long; 0 if it is carried out.
