@@ -13,9 +13,10 @@ use Rattle.bits.proofs.Word.{bit-mod-two, bit-ofBits, ofBits-lt, ofBits-add, ex
 use Rattle.bits.proofs.Places.{pick-marked-lt}
 use Rattle.gather.specs.Gather.{gatherOf, scatterOf}
 use Rattle.pack.specs.declared.Cursor.{Cursor}
+use Rattle.pack.specs.declared.Pair.{Pair}
 use Rattle.pack.specs.declared.Taken.{Taken}
 use Rattle.pack.specs.Fields.{sizeOf, needed, fieldsOf, streamBit, streamOf, wordAt, packInto, scatteredAt, overwritten}
-use Rattle.pack.specs.Cursor.{cursorStart, Holds, Puts, finished, Awaits, Takes}
+use Rattle.pack.specs.Cursor.{cursorStart, Holds, Puts, PutsPair, Gathers, finished, Awaits, Takes}
 use Rattle.pack.proofs.FilledLists.{length-overwritten, fill-none, fill-next, map-at}
 use Rattle.pack.proofs.Reading.{scatter-read}
 
@@ -73,7 +74,26 @@ module _ (m : ℕ) (ws old : List ℕ) where
       let n : sizeOf m * i + size ≡ sizeOf m * (i + 1) = omega arith in
       rw n at (p .next stream (sizeOf m * i) old inv (f ∙ rw e (field-bits i h)))
 
+  pub pair-turn : {i : ℕ} {c r : Cursor} {size : ℕ} {pair : Pair} {before after : List ℕ} → i + 1 < length ws → Holds stream (sizeOf m * i) c old before
+      → size ≡ sizeOf m → Gathers m ws i pair → PutsPair c size pair before r after → Holds stream (sizeOf m * (i + 2)) r old after
+  pair-turn {i} h inv e g p =
+      let n : i + 1 + 1 ≡ i + 2 = omega arith in
+      rw n at (pack-turn h (pack-turn (omega arith) inv e (g .low) (p .low)) e (g .high) (p .high))
+
   module _ (fits : needed (sizeOf m * length ws) ≤ length old) where
+    -- room for two fields
+    pub pair-room : (i : ℕ) {c : Cursor} {size : ℕ} {out : List ℕ} → i + 1 < length ws → Holds stream (sizeOf m * i) c old out → size ≡ sizeOf m
+        → 64 * c .word + c .held + (size + size) ≤ 64 * length out
+    pair-room i {c} h inv e =
+        omega (
+          arith,
+          inv .at,
+          next-field (sizeOf m) i (length ws) (omega arith),
+          next-field (sizeOf m) (i + 1) (length ws) h,
+          length-overwritten (wordAt stream) (c .word) old,
+          ap length (inv .words),
+        )
+
     pub pack-room : {i : ℕ} {c : Cursor} {size : ℕ} {out : List ℕ} → i < length ws → Holds stream (sizeOf m * i) c old out → size ≡ sizeOf m
         → 64 ≤ c .held + size → c .word < length out
     pack-room {i} {c} h inv e l =

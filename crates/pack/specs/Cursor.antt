@@ -25,7 +25,16 @@ pub record Holds (s : ℕ → ℕ) (n : ℕ) (c : Cursor) (old out : List ℕ) :
 
 -- Putting a field moves the cursor on: whatever the stream, if the field is its next `size` bits.
 pub record Puts (c : Cursor) (size field : ℕ) (before : List ℕ) (r : Cursor) (after : List ℕ) : Type 0 where
+  pub at : 64 * r .word + r .held ≡ 64 * c .word + c .held + size
+  pub within : r .held < 64
   pub next : (s : ℕ → ℕ) (n : ℕ) (old : List ℕ) → Holds s n c old before → field ≡ ofBits size (λ i. s (n + i)) → Holds s (n + size) r old after
+
+-- both fields put, by way of a cursor between
+pub record PutsPair (c : Cursor) (size : ℕ) (pair : Pair) (before : List ℕ) (r : Cursor) (after : List ℕ) : Type 0 where
+  pub between : Cursor
+  pub middle : List ℕ
+  pub low : Puts c size (pair .low) before between middle
+  pub high : Puts between size (pair .high) middle r after
 
 -- the word begun, if there is one, written
 abbrev pub finished : Cursor → List ℕ → List ℕ

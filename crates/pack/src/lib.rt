@@ -5,7 +5,7 @@ ghost use lib.ListN.{length};
 ghost use Rattle.gather.specs.Gather.{gatherOf, scatterOf};
 ghost use Rattle.pack.specs.Fields.{sizeOf, needed, overwritten, streamOf, packInto, scatteredAt, upTo};
 ghost use Rattle.pack.specs.Moves.{Parities, Moves};
-ghost use Rattle.pack.specs.Cursor.{cursorStart, evenPart, Holds, Puts, Gathers, Copies, finished, Awaits, Takes};
+ghost use Rattle.pack.specs.Cursor.{cursorStart, evenPart, Holds, Puts, PutsPair, Gathers, Copies, finished, Awaits, Takes};
 ghost use Rattle.pack.specs.Calls.{fieldsRefusal, fieldsAnswer, packAnswer, packedOut, unpackAnswer, unpackedOut};
 
 // What a call answers: 0 and the count of bits, or the number of the refusal and a zero.
@@ -71,6 +71,15 @@ impl Cursor {
             held: held + size - 64,
             pending: (field >> 1) >> (63 - held),
         }
+    }
+
+    // internal: room for both fields, which are put one after the other
+    fn put_pair(self, size: u64, pair: Pair, out: &mut [u64]) -> Cursor
+        requires { ⌜ (self .held < 64) × (size ≤ 64) × (64 * self .word + self .held + (size + size) ≤ 64 * length (now out)) ⌝ }
+        ensures { λ r. ⌜ PutsPair self size pair (now (out .entry)) r (now (out .exit)) ⌝ }
+    {
+        let between = self.put(size, pair.low, out);
+        between.put(size, pair.high, out)
     }
 
     // internal: room for the word begun, if there is one. It is written.
@@ -209,15 +218,12 @@ fn write_pairs(moves: [u64; 6], mask: u64, size: u64, words: &[u64], out: &mut [
     let mut cursor = Cursor::start();
     let mut pair = gathered_pair(moves, mask, words, 0);
     let mut i: usize = 0;
-    loop {
-        let between = cursor.put(size, pair.low, out);
-        cursor = between.put(size, pair.high, out);
+    while i + 3 < words.len() {
+        cursor = cursor.put_pair(size, pair, out);
         i += 2;
-        if words.len() < i + 2 {
-            return cursor;
-        }
         pair = gathered_pair(moves, mask, words, i);
     }
+    cursor.put_pair(size, pair, out)
 }
 
 // internal: room for the fields. The field of each word, one after the other, and zeros up to the end of the last word begun.

@@ -7,7 +7,7 @@ use lib.ListN.{length}
 use Rattle.bits.proofs.Rank.{rank-le}
 use Rattle.pack.specs.Fields.{sizeOf, streamOf}
 use Rattle.pack.specs.Cursor.{evenPart, Holds, Gathers}
-use Rattle.pack.proofs.Turns.{pack-starts, pack-turn, pack-room}
+use Rattle.pack.proofs.Turns.{pack-starts, pair-turn, pair-room}
 use Rattle.pack.proofs.write_pairs.Statement.{statement}
 use Rattle.pack.proofs.write_pairs.Tie as tie
 
@@ -38,85 +38,64 @@ loop-holds c =
     let a = c .before .before .before .before .before .args in
     (search needs, refl, refl, c .gathered-pair .ensures, pack-starts (a .mask) (a .words .now) (a .out .now) (c .before .start2 .ensures))
 
-put-requires : tie.Need-put-requires Inv-loop μ-loop
-put-requires c κs =
-    let l = c .before in
+add-loop : tie.Need-add-loop Inv-loop μ-loop
+add-loop c = search needs
+
+-- a pair can be put
+allowed : (l : tie.At-loop Inv-loop μ-loop)
+    → let a = l .before .before .before .before .before .before .args in
+    let k = l .loop .cursor in
+    (k .held < 64) × (a .size ≤ 64) × (64 * k .word + k .held + (a .size + a .size) ≤ 64 * length (l .loop .out))
+allowed l =
     let b = l .before .before .before .before .before .before in
     let a = b .args in (
-      search needs,
+      l .loop .inv .4 .within,
       omega (arith, rank-le (a .mask) 64, b .pre .1),
-      pack-room (a .mask) (a .words .now) (a .out .now) (b .pre .2) (search needs) (l .loop .inv .4) (b .pre .1),
+      pair-room (a .mask) (a .words .now) (a .out .now) (b .pre .2) (l .loop .i) (l .loop .inv .0) (l .loop .inv .4) (b .pre .1),
     )
 
--- the pair's first field is put
-halfway : (p : tie.After-put Inv-loop μ-loop)
-    → let l = p .before .before in
-    let a = l .before .before .before .before .before .before .args in
-    Holds (streamOf (a .mask) (a .words .now)) (sizeOf (a .mask) * (l .loop .i + 1)) (p .put .result) (a .out .now) (p .put .last .1 .1 .1 .0)
-halfway p =
-    let l = p .before .before in
-    let b = l .before .before .before .before .before .before in
-    let a = b .args in
-    pack-turn (a .mask) (a .words .now) (a .out .now) (search needs) (l .loop .inv .4) (b .pre .1) (l .loop .inv .3 .low) (p .put .ensures)
-
-put-requires-2 : tie.Need-put-requires-2 Inv-loop μ-loop
-put-requires-2 c κs =
-    let p = c .before .before .before in
-    let l = p .before .before in
-    let b = l .before .before .before .before .before .before in
-    let a = b .args in (
-      halfway p .within,
-      omega (arith, rank-le (a .mask) 64, b .pre .1),
-      pack-room (a .mask) (a .words .now) (a .out .now) (b .pre .2) (search needs) (halfway p) (b .pre .1),
-    )
-
--- both are put
-turned : (q : tie.After-put2 Inv-loop μ-loop)
-    → let l = q .before .before .before .before .before .before in
-    let a = l .before .before .before .before .before .before .args in
-    Holds (streamOf (a .mask) (a .words .now)) (sizeOf (a .mask) * (l .loop .i + 2)) (q .put2 .result) (a .out .now) (q .put2 .last .1 .1 .1 .0)
-turned q =
-    let p = q .before .before .before .before in
-    let l = p .before .before in
-    let b = l .before .before .before .before .before .before in
-    let a = b .args in
-    let e : l .loop .i + 1 + 1 ≡ l .loop .i + 2 = omega arith in
-    rw e at (pack-turn (a .mask) (a .words .now) (a .out .now) (search needs) (halfway p) (b .pre .1) (l .loop .inv .3 .high) (q .put2 .ensures))
+put-pair-requires : tie.Need-put-pair-requires Inv-loop μ-loop
+put-pair-requires c κs = allowed (c .before .before)
 
 add-i : tie.Need-add-i Inv-loop μ-loop
-add-i c =
-    let l = c .before .before .before .before .before .before .before .before in
-    record { fits = omega (arith, l .loop .inv .0, l .before .before .before .before .before .before .good) }
-
-add-if2 : tie.Need-add-if2 Inv-loop μ-loop
-add-if2 c =
-    let l = c .before .before .before .before .before .before .before .before in
-    record { fits = omega (arith, l .loop .inv .0, l .before .before .before .before .before .before .good) }
-
-same-length : tie.Need-same-length Inv-loop μ-loop
-same-length c = search needs
-
-returns-2 : tie.Need-returns-2 Inv-loop μ-loop
-returns-2 c =
-    let q = c .before .before .before in
-    let l = q .before .before .before .before .before .before in
-    let a = l .before .before .before .before .before .before .args in
-    let e : l .loop .i + 2 ≡ evenPart (length (a .words .now)) = omega (arith, l .loop .inv .0, l .loop .inv .1, c .if2 .taken) in
-    rw (← e) (turned q)
+add-i c = search needs
 
 gathered-pair-requires-2 : tie.Need-gathered-pair-requires-2 Inv-loop μ-loop
 gathered-pair-requires-2 c κs =
-    let b = c .before .before .before .before .before .before .before .before .before .before .before .before .before .before .before in
-    (b .pre .0, omega (arith, c .if2 .left))
+    let b = c .before .before .before .before .before .before .before .before .before .before .before in
+    (b .pre .0, search needs)
 
 loop-less : tie.Need-loop-less Inv-loop μ-loop
 loop-less c = search needs
 
 loop-again : tie.Need-loop-again Inv-loop μ-loop
 loop-again c =
-    let q = c .before .before .before .before in
-    let l = q .before .before .before .before .before .before in
-    (omega (arith, c .before .if2 .left), omega (arith, l .loop .inv .1), search needs, c .gathered-pair2 .ensures, turned q)
+    let q = c .before .before .before in
+    let l = q .before .before .before in
+    let b = l .before .before .before .before .before .before in (
+      search needs,
+      omega (arith, l .loop .inv .1),
+      search needs,
+      c .gathered-pair2 .ensures,
+      pair-turn (b .args .mask) (b .args .words .now) (b .args .out .now) (l .loop .inv .0) (l .loop .inv .4) (b .pre .1) (l .loop .inv .3)
+          (q .put-pair .ensures),
+    )
+
+put-pair-requires-2 : tie.Need-put-pair-requires-2 Inv-loop μ-loop
+put-pair-requires-2 c κs = allowed (c .before .before)
+
+same-length : tie.Need-same-length Inv-loop μ-loop
+same-length c = search needs
+
+returns-2 : tie.Need-returns-2 Inv-loop μ-loop
+returns-2 c =
+    let q = c .before .before in
+    let l = q .before .before .before in
+    let b = l .before .before .before .before .before .before in
+    let e : l .loop .i + 2 ≡ evenPart (length (b .args .words .now)) = omega (arith, l .loop .inv .0, l .loop .inv .1) in
+    rw (← e)
+    (pair-turn (b .args .mask) (b .args .words .now) (b .args .out .now) (l .loop .inv .0) (l .loop .inv .4) (b .pre .1) (l .loop .inv .3)
+    (q .put-pair2 .ensures))
 
 pub write-pairs-spec : {M : Type 1} → statement M
 write-pairs-spec =
@@ -129,12 +108,12 @@ write-pairs-spec =
     start-requires-2
     gathered-pair-requires
     loop-holds
-    put-requires
-    put-requires-2
+    add-loop
+    put-pair-requires
     add-i
-    add-if2
-    same-length
-    returns-2
     gathered-pair-requires-2
     loop-less
-    loop-again)
+    loop-again
+    put-pair-requires-2
+    same-length
+    returns-2)
