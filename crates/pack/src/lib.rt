@@ -73,7 +73,7 @@ impl Cursor {
         }
     }
 
-    // internal: room for both fields, which are put one after the other
+    // internal: room for the words that the fields complete. One after the other.
     fn put_pair(self, size: u64, pair: Pair, out: &mut [u64]) -> Cursor
         requires { ⌜ (self .held < 64) × (size ≤ 64) × (64 * self .word + self .held + (size + size) ≤ 64 * length (now out)) ⌝ }
         ensures { λ r. ⌜ PutsPair self size pair (now (out .entry)) r (now (out .exit)) ⌝ }
@@ -206,16 +206,16 @@ fn copy_words(n: usize, from: &[u64], to: &mut [u64])
     }
 }
 
-// internal: the moves and the size of the mask, and room for the fields. Those of all words but the last of an odd number are put. A pair is gathered
-// before the turn that puts it: so the compiler gathers both words at once.
+// internal: the moves and the size of the mask, and room for the fields. Those of all words but the last of an odd number are put. A turn gathers the
+// pair that the next one puts: as the loop carries both fields on, the compiler makes them at once, in one vector.
 fn write_pairs(moves: [u64; 6], mask: u64, size: u64, words: &[u64], out: &mut [u64]) -> Cursor
     requires { ⌜ Moves mask 6 moves × (size ≡ sizeOf mask) × (needed (sizeOf mask * length (now words)) ≤ length (now out)) ⌝ }
     ensures { λ r. ⌜ Holds (streamOf mask (now (words .entry))) (sizeOf mask * evenPart (length (now (words .entry)))) r (now (out .entry)) (now (out .exit)) ⌝ }
 {
-    if words.len() < 2 {
-        return Cursor::start();
-    }
     let mut cursor = Cursor::start();
+    if words.len() < 2 {
+        return cursor;
+    }
     let mut pair = gathered_pair(moves, mask, words, 0);
     let mut i: usize = 0;
     while i + 3 < words.len() {
@@ -248,7 +248,7 @@ fn write_fields(mask: u64, words: &[u64], out: &mut [u64])
 }
 
 // internal: the moves and the size of the mask, and words enough for the fields. They are scattered into all words of `out` but the last of an odd
-// number, two a turn, which the compiler scatters at once.
+// number. As a turn writes two words side by side, the compiler scatters both at once, in one vector.
 fn read_pairs(moves: [u64; 6], mask: u64, size: u64, packed: &[u64], out: &mut [u64]) -> Cursor
     requires { ⌜ Moves mask 6 moves × (size ≡ sizeOf mask) × (needed (sizeOf mask * length (now out)) ≤ length (now packed)) ⌝ }
     ensures { λ r. ⌜ Awaits (now (packed .entry)) (sizeOf mask * evenPart (length (now (out .entry)))) r

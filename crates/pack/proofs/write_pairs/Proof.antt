@@ -25,10 +25,7 @@ returns : tie.Need-returns Inv-loop μ-loop
 returns c =
     let a = c .before .before .before .before .args in
     let z : 0 ≡ evenPart (length (a .words .now)) = omega arith in
-    rw (← z) (pack-starts (a .mask) (a .words .now) (a .out .now) (c .start .ensures))
-
-start-requires-2 : tie.Need-start-requires-2 Inv-loop μ-loop
-start-requires-2 c κs = search needs
+    rw (← z) (pack-starts (a .mask) (a .words .now) (a .out .now) (c .before .start .ensures))
 
 gathered-pair-requires : tie.Need-gathered-pair-requires Inv-loop μ-loop
 gathered-pair-requires c κs = search needs
@@ -36,7 +33,7 @@ gathered-pair-requires c κs = search needs
 loop-holds : tie.Need-loop-holds Inv-loop μ-loop
 loop-holds c =
     let a = c .before .before .before .before .before .args in
-    (search needs, refl, refl, c .gathered-pair .ensures, pack-starts (a .mask) (a .words .now) (a .out .now) (c .before .start2 .ensures))
+    (search needs, refl, refl, c .gathered-pair .ensures, pack-starts (a .mask) (a .words .now) (a .out .now) (c .before .before .start .ensures))
 
 add-loop : tie.Need-add-loop Inv-loop μ-loop
 add-loop c = search needs
@@ -105,7 +102,6 @@ write-pairs-spec =
     μ-loop
     start-requires
     returns
-    start-requires-2
     gathered-pair-requires
     loop-holds
     add-loop
