@@ -18,6 +18,7 @@ use Rattle.pack.specs.declared.Taken.{Taken}
 use Rattle.pack.specs.Fields.{sizeOf, needed, fieldsOf, streamBit, streamOf, wordAt, packInto, scatteredAt, overwritten}
 use Rattle.pack.specs.Cursor.{cursorStart, Holds, Puts, PutsPair, Gathers, finished, Awaits, Takes}
 use Rattle.pack.proofs.FilledLists.{length-overwritten, fill-none, fill-next, map-at}
+use Rattle.pack.proofs.Stream.{ofBits-same}
 use Rattle.pack.proofs.Reading.{scatter-read}
 
 -- the stream of a list of fields
@@ -67,6 +68,17 @@ module _ (m : ℕ) (ws old : List ℕ) where
       (λ i l.
       sym
       (bit-ofBits (sizeOf m) g i l ∙ ap (λ (n : ℕ). n % 2) (stream-word f i h l) ∙ bit-mod-two (gatherOf 64 m (getD ws f 0)) i))
+
+  -- the first word's field, in a cursor that has written nothing
+  pub pack-begins : {size field : ℕ} → 0 < length ws → size ≡ sizeOf m → size < 64 → field ≡ gatherOf 64 m (getD ws 0 0)
+      → Holds stream (sizeOf m * 1) (record { word = 0; held = size; pending = field }) old old
+  pack-begins {size} h e l f = record {
+    at = omega arith;
+    within = l;
+    bits = f ∙ rw (e) (field-bits 0 h ∙ ofBits-same (sizeOf m) (λ i. stream (sizeOf m * 0 + i)) (λ i. stream (64 * 0 + i))
+        (λ i _. let q : sizeOf m * 0 + i ≡ 64 * 0 + i = omega arith in ap stream q));
+    words = fill-none (wordAt stream) old;
+  }
 
   pub pack-turn : {i : ℕ} {c r : Cursor} {size field : ℕ} {before after : List ℕ} → i < length ws → Holds stream (sizeOf m * i) c old before
       → size ≡ sizeOf m → field ≡ gatherOf 64 m (getD ws i 0) → Puts c size field before r after → Holds stream (sizeOf m * (i + 1)) r old after

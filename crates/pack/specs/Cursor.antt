@@ -2,15 +2,15 @@
 use mathlib.Core.Path.{_≡_}
 use mathlib.Core.Bool.{cond}
 use mathlib.Core.List.{List}
-use Prim.Native.Nat.{ℕ, _+_, _*_, _/_, _^_, _<_}
+use Prim.Native.Nat.{ℕ, _+_, _*_, _%_, _^_, _<_}
 use lib.Dec.{eqb}
-use lib.ListN.{getD, set}
+use lib.ListN.{length, getD, set}
 use Rattle.bits.specs.Bit.{bit, ofBits}
 use Rattle.gather.specs.Gather.{gatherOf}
 use Rattle.pack.specs.declared.Cursor.{Cursor}
 use Rattle.pack.specs.declared.Pair.{Pair}
 use Rattle.pack.specs.declared.Taken.{Taken}
-use Rattle.pack.specs.Fields.{overwritten, wordAt, packedBit}
+use Rattle.pack.specs.Fields.{overwritten, sizeOf, streamOf, wordAt, packedBit}
 
 -- nothing written or read
 abbrev pub cursorStart : Cursor
@@ -22,6 +22,10 @@ pub record Holds (s : ℕ → ℕ) (n : ℕ) (c : Cursor) (old out : List ℕ) :
   pub within : c .held < 64
   pub bits : c .pending ≡ ofBits (c .held) (λ i. s (64 * c .word + i))
   pub words : out ≡ overwritten (c .word) (wordAt s) old
+
+-- The first of an odd number of words is put, and no word is written.
+pub record Begins (m : ℕ) (ws : List ℕ) (r : Cursor) : Type 0 where
+  pub holds : (old : List ℕ) → Holds (streamOf m ws) (sizeOf m * (length ws % 2)) r old old
 
 -- Putting a field moves the cursor on: whatever the stream, if the field is its next `size` bits.
 pub record Puts (c : Cursor) (size field : ℕ) (before : List ℕ) (r : Cursor) (after : List ℕ) : Type 0 where
@@ -49,10 +53,6 @@ pub record Gathers (m : ℕ) (ws : List ℕ) (i : ℕ) (r : Pair) : Type 0 where
 pub record Copies (n : ℕ) (from before after : List ℕ) : Type 0 where
   pub words : after ≡ overwritten n (λ i. getD from i 0) before
   pub fit : (i : ℕ) → i < n → getD from i 0 < 2 ^ 64
-
--- how many of n words are in pairs
-abbrev pub evenPart : ℕ → ℕ
-evenPart n = n / 2 * 2
 
 -- The n first bits of packed words are taken: those of the last word read that are not are held in the cursor.
 pub record Awaits (ps : List ℕ) (n : ℕ) (c : Cursor) : Type 0 where

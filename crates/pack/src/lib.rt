@@ -1,11 +1,11 @@
 // Packed fields: the bits that a mask marks in each of many words, end to end (paper 01, 'Strips'; demand 2).
 ghost use mathlib.Core.Path.{_≡_};
-ghost use Prim.Native.Nat.{_+_, _-_, _*_, _≤_, _<_};
+ghost use Prim.Native.Nat.{_+_, _-_, _*_, _%_, _≤_, _<_};
 ghost use lib.ListN.{length};
 ghost use Rattle.gather.specs.Gather.{gatherOf, scatterOf};
 ghost use Rattle.pack.specs.Fields.{sizeOf, needed, overwritten, streamOf, packInto, scatteredAt, upTo};
 ghost use Rattle.pack.specs.Moves.{Parities, Moves};
-ghost use Rattle.pack.specs.Cursor.{cursorStart, evenPart, Holds, Puts, PutsPair, Gathers, Copies, finished, Awaits, Takes};
+ghost use Rattle.pack.specs.Cursor.{cursorStart, Holds, Begins, Puts, PutsPair, Gathers, Copies, finished, Awaits, Takes};
 ghost use Rattle.pack.specs.Calls.{fieldsRefusal, fieldsAnswer, packAnswer, packedOut, unpackAnswer, unpackedOut};
 
 // What a call answers: 0 and the count of bits, or the number of the refusal and a zero.
@@ -206,18 +206,33 @@ fn copy_words(n: usize, from: &[u64], to: &mut [u64])
     }
 }
 
-// internal: the moves and the size of the mask, and room for the fields. Those of all words but the last of an odd number are put. A turn gathers the
+// internal: the moves and the size of the mask. The cursor before the words that go in pairs: the first of an odd number is put.
+fn write_first(moves: [u64; 6], mask: u64, size: u64, words: &[u64]) -> Cursor
+    requires { ⌜ Moves mask 6 moves × (size ≡ sizeOf mask) × (size < 64) ⌝ }
+    ensures { λ r. ⌜ Begins mask (now (words .entry)) r ⌝ }
+{
+    if words.len() % 2 == 0 {
+        return Cursor::start();
+    }
+    Cursor {
+        word: 0,
+        held: size,
+        pending: gathered(moves, mask, words[0]),
+    }
+}
+
+// internal: the moves and the size of the mask, and room for the fields. All are put, and the last word begun is not written. A turn gathers the
 // pair that the next one puts: as the loop carries both fields on, the compiler makes them at once, in one vector.
 fn write_pairs(moves: [u64; 6], mask: u64, size: u64, words: &[u64], out: &mut [u64]) -> Cursor
-    requires { ⌜ Moves mask 6 moves × (size ≡ sizeOf mask) × (needed (sizeOf mask * length (now words)) ≤ length (now out)) ⌝ }
-    ensures { λ r. ⌜ Holds (streamOf mask (now (words .entry))) (sizeOf mask * evenPart (length (now (words .entry)))) r (now (out .entry)) (now (out .exit)) ⌝ }
+    requires { ⌜ Moves mask 6 moves × (size ≡ sizeOf mask) × (size < 64) × (needed (sizeOf mask * length (now words)) ≤ length (now out)) ⌝ }
+    ensures { λ r. ⌜ Holds (streamOf mask (now (words .entry))) (sizeOf mask * length (now (words .entry))) r (now (out .entry)) (now (out .exit)) ⌝ }
 {
-    let mut cursor = Cursor::start();
+    let mut cursor = write_first(moves, mask, size, words);
     if words.len() < 2 {
         return cursor;
     }
-    let mut pair = gathered_pair(moves, mask, words, 0);
-    let mut i: usize = 0;
+    let mut i = words.len() % 2;
+    let mut pair = gathered_pair(moves, mask, words, i);
     while i + 3 < words.len() {
         cursor = cursor.put_pair(size, pair, out);
         i += 2;
@@ -232,31 +247,41 @@ fn write_fields(mask: u64, words: &[u64], out: &mut [u64])
     ensures { λ r. ⌜ now (out .exit) ≡ packInto mask (now (words .entry)) (now (out .entry)) ⌝ }
 {
     let size = bits::count(mask);
-    let len = words.len();
     if size == 64 {
-        copy_words(len, words, out);
+        copy_words(words.len(), words, out);
         return;
     }
-    let moves = moves(mask);
-    let cursor = write_pairs(moves, mask, size, words, out);
-    if len % 2 == 0 {
-        cursor.finish(out);
-        return;
-    }
-    let end = cursor.put(size, gathered(moves, mask, words[len - 1]), out);
-    end.finish(out);
+    let cursor = write_pairs(moves(mask), mask, size, words, out);
+    cursor.finish(out);
 }
 
-// internal: the moves and the size of the mask, and words enough for the fields. They are scattered into all words of `out` but the last of an odd
-// number. As a turn writes two words side by side, the compiler scatters both at once, in one vector.
-fn read_pairs(moves: [u64; 6], mask: u64, size: u64, packed: &[u64], out: &mut [u64]) -> Cursor
-    requires { ⌜ Moves mask 6 moves × (size ≡ sizeOf mask) × (needed (sizeOf mask * length (now out)) ≤ length (now packed)) ⌝ }
-    ensures { λ r. ⌜ Awaits (now (packed .entry)) (sizeOf mask * evenPart (length (now (out .entry)))) r
-        × (now (out .exit) ≡ overwritten (evenPart (length (now (out .entry)))) (scatteredAt mask (now (packed .entry))) (now (out .entry))) ⌝ }
+// internal: the moves and the size of the mask, words enough for the fields, and two words or more to write. The cursor before the fields that go in
+// pairs: the first of an odd number is scattered, and the second with it, which comes again.
+fn read_first(moves: [u64; 6], mask: u64, size: u64, packed: &[u64], out: &mut [u64]) -> Cursor
+    requires { ⌜ Moves mask 6 moves × (size ≡ sizeOf mask) × (needed (sizeOf mask * length (now out)) ≤ length (now packed)) × (1 < length (now out)) ⌝ }
+    ensures { λ r. ⌜ Awaits (now (packed .entry)) (sizeOf mask * (length (now (out .entry)) % 2)) r
+        × (now (out .exit) ≡ overwritten (length (now (out .entry)) % 2) (scatteredAt mask (now (packed .entry))) (now (out .exit))) ⌝ }
 {
-    let mut cursor = Cursor::start();
-    let mut i: usize = 0;
-    while i + 1 < out.len() {
+    if out.len() % 2 == 0 {
+        return Cursor::start();
+    }
+    let low = Cursor::start().take(size, packed);
+    let high = low.next.take(size, packed);
+    out[0] = scattered(moves, mask, low.field);
+    out[1] = scattered(moves, mask, high.field);
+    low.next
+}
+
+// internal: as read_first. Each field is scattered into a word of `out`. As a turn writes two words side by side, the compiler makes them at once, in
+// one vector.
+fn read_pairs(moves: [u64; 6], mask: u64, size: u64, packed: &[u64], out: &mut [u64])
+    requires { ⌜ Moves mask 6 moves × (size ≡ sizeOf mask) × (needed (sizeOf mask * length (now out)) ≤ length (now packed)) × (1 < length (now out)) ⌝ }
+    ensures { λ r. ⌜ now (out .exit) ≡ upTo (length (now (out .entry))) (scatteredAt mask (now (packed .entry))) ⌝ }
+{
+    let len = out.len();
+    let mut cursor = read_first(moves, mask, size, packed, out);
+    let mut i = len % 2;
+    while i < len {
         let low = cursor.take(size, packed);
         let high = low.next.take(size, packed);
         cursor = high.next;
@@ -264,7 +289,6 @@ fn read_pairs(moves: [u64; 6], mask: u64, size: u64, packed: &[u64], out: &mut [
         out[i + 1] = scattered(moves, mask, high.field);
         i += 2;
     }
-    cursor
 }
 
 // internal: words enough for the fields. Each field scattered into a word of `out`.
@@ -278,13 +302,16 @@ fn read_fields(mask: u64, packed: &[u64], out: &mut [u64])
         copy_words(len, packed, out);
         return;
     }
-    let moves = moves(mask);
-    let cursor = read_pairs(moves, mask, size, packed, out);
-    if len % 2 == 0 {
+    if len == 0 {
         return;
     }
-    let taken = cursor.take(size, packed);
-    out[len - 1] = scattered(moves, mask, taken.field);
+    let moves = moves(mask);
+    if len == 1 {
+        let taken = Cursor::start().take(size, packed);
+        out[0] = scattered(moves, mask, taken.field);
+        return;
+    }
+    read_pairs(moves, mask, size, packed, out);
 }
 
 // internal: fields of at most 64 bits. The lowest refusal of a call, where a and b cut the one of two slices that is `own` long; 0 if it is carried out.

@@ -1,39 +1,38 @@
 -- `pack::write_pairs` meets its contract: before a turn, the fields of the first i words are put and those of the next two gathered. Assumes nothing.
 use mathlib.Core.Path.{_≡_, refl}
-use Prim.Native.Nat.{_+_, _≤_, _<_, _-_, _*_, _/_}
+use Prim.Native.Nat.{_+_, _≤_, _<_, _-_, _*_, _%_}
 use native.Mathlib.Omega.{arith}
 use borrow.Author.Needs.{needs}
 use lib.ListN.{length}
 use Rattle.bits.proofs.Rank.{rank-le}
 use Rattle.pack.specs.Fields.{sizeOf, streamOf}
-use Rattle.pack.specs.Cursor.{evenPart, Holds, Gathers}
-use Rattle.pack.proofs.Turns.{pack-starts, pair-turn, pair-room}
+use Rattle.pack.specs.Cursor.{Holds, Gathers}
+use Rattle.pack.proofs.Turns.{pair-turn, pair-room}
 use Rattle.pack.proofs.write_pairs.Statement.{statement}
 use Rattle.pack.proofs.write_pairs.Tie as tie
 
 abbrev Inv-loop : tie.InvT-loop
-Inv-loop moves mask size words out₀ cursor₀ pair₀ i₀ out cursor pair i = (i + 1 < length words) × (i / 2 * 2 ≡ i) × (length out ≡ length out₀)
+Inv-loop moves mask size words out₀ cursor₀ i₀ pair₀ out cursor i pair = (i + 1 < length words) × ((length words - i) % 2 ≡ 0) × (length out ≡ length out₀)
     × Gathers mask words i pair × Holds (streamOf mask words) (sizeOf mask * i) cursor out₀ out
 
 abbrev μ-loop : tie.MeasureT-loop
-μ-loop moves mask size words out₀ cursor₀ pair₀ i₀ out cursor pair i = length words - i
+μ-loop moves mask size words out₀ cursor₀ i₀ pair₀ out cursor i pair = length words - i
 
-start-requires : tie.Need-start-requires Inv-loop μ-loop
-start-requires c κs = search needs
+write-first-requires : tie.Need-write-first-requires Inv-loop μ-loop
+write-first-requires c κs = search needs
 
 returns : tie.Need-returns Inv-loop μ-loop
 returns c =
     let a = c .before .before .before .before .args in
-    let z : 0 ≡ evenPart (length (a .words .now)) = omega arith in
-    rw (← z) (pack-starts (a .mask) (a .words .now) (a .out .now) (c .before .start .ensures))
+    let e : length (a .words .now) % 2 ≡ length (a .words .now) = search needs in
+    rw e at (c .before .write-first .ensures .holds (a .out .now))
 
 gathered-pair-requires : tie.Need-gathered-pair-requires Inv-loop μ-loop
 gathered-pair-requires c κs = search needs
 
 loop-holds : tie.Need-loop-holds Inv-loop μ-loop
 loop-holds c =
-    let a = c .before .before .before .before .before .args in
-    (search needs, refl, refl, c .gathered-pair .ensures, pack-starts (a .mask) (a .words .now) (a .out .now) (c .before .before .start .ensures))
+    (search needs, search needs, refl, c .gathered-pair .ensures, c .before .before .write-first .ensures .holds _)
 
 add-loop : tie.Need-add-loop Inv-loop μ-loop
 add-loop c = search needs
@@ -48,7 +47,7 @@ allowed l =
     let a = b .args in (
       l .loop .inv .4 .within,
       omega (arith, rank-le (a .mask) 64, b .pre .1),
-      pair-room (a .mask) (a .words .now) (a .out .now) (b .pre .2) (l .loop .i) (l .loop .inv .0) (l .loop .inv .4) (b .pre .1),
+      pair-room (a .mask) (a .words .now) (a .out .now) (b .pre .3) (l .loop .i) (l .loop .inv .0) (l .loop .inv .4) (b .pre .1),
     )
 
 put-pair-requires : tie.Need-put-pair-requires Inv-loop μ-loop
@@ -89,7 +88,7 @@ returns-2 c =
     let q = c .before .before in
     let l = q .before .before .before in
     let b = l .before .before .before .before .before .before in
-    let e : l .loop .i + 2 ≡ evenPart (length (b .args .words .now)) = omega (arith, l .loop .inv .0, l .loop .inv .1) in
+    let e : l .loop .i + 2 ≡ length (b .args .words .now) = omega (arith, l .loop .inv .0, l .loop .inv .1) in
     rw (← e)
     (pair-turn (b .args .mask) (b .args .words .now) (b .args .out .now) (l .loop .inv .0) (l .loop .inv .4) (b .pre .1) (l .loop .inv .3)
     (q .put-pair2 .ensures))
@@ -100,7 +99,7 @@ write-pairs-spec =
     (tie.spec
     Inv-loop
     μ-loop
-    start-requires
+    write-first-requires
     returns
     gathered-pair-requires
     loop-holds
