@@ -106,17 +106,6 @@ module _ (m : ℕ) (ws old : List ℕ) where
           ap length (inv .words),
         )
 
-    pub pack-room : {i : ℕ} {c : Cursor} {size : ℕ} {out : List ℕ} → i < length ws → Holds stream (sizeOf m * i) c old out → size ≡ sizeOf m
-        → 64 ≤ c .held + size → c .word < length out
-    pack-room {i} {c} h inv e l =
-        omega (
-          arith,
-          inv .at,
-          next-field (sizeOf m) i (length ws) h,
-          length-overwritten (wordAt stream) (c .word) old,
-          ap length (inv .words),
-        )
-
     module _ {c : Cursor} {out : List ℕ} (inv : Holds stream (sizeOf m * length ws) c old out) where
       pub last-room : (c .held ≡ 0 → ⊥) → c .word < length out
       last-room z = omega (arith, inv .at, z, length-overwritten (wordAt stream) (c .word) old, ap length (inv .words))

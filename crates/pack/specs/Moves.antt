@@ -1,4 +1,4 @@
--- What gather and scatter compute from a mask: how far down each marked bit is gathered, by powers of two. Assumes nothing.
+-- What pack and unpack compute from a mask: how far down each marked bit is gathered, by powers of two. Assumes nothing.
 use mathlib.Core.Path.{_≡_}
 use mathlib.Core.List.{List}
 use Prim.Native.Nat.{ℕ, suc, _-_, _%_, _<_}

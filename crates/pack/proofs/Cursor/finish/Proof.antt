@@ -1,4 +1,5 @@
 -- `pack::Cursor::finish` meets its contract. Assumes nothing.
+use mathlib.Core.Path.{_≡_}
 use Prim.Native.Nat.{_<_}
 use native.Mathlib.Omega.{arith}
 use lib.ListN.{length}
@@ -8,7 +9,7 @@ use Rattle.pack.proofs.Cursor.finish.Statement.{statement}
 use Rattle.pack.proofs.Cursor.finish.Tie as tie
 
 returns : tie.Need-returns
-returns c = simp (eq-eqb _ _ (c .if1 .taken))
+returns c = let z : c .before .before .args .self .held ≡ 0 = search needs in simp (eq-eqb _ _ z)
 
 room : (c : tie.Else1) → c .before .before .args .self .word < length (c .before .before .args .out .now)
 room c = c .before .before .pre (c .if1 .left)
