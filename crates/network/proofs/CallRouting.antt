@@ -6,7 +6,7 @@ use Prim.Native.Nat.{ℕ, zero, suc, _+_, _-_, _/_, _%_, _^_, _<_, _≤_}
 use native.Mathlib.Omega.{arith}
 use native.Mathlib.Decide.{decLt}
 use native.Mathlib.Nat.{mod-lt, zero-add}
-use lib.Bits.{bitAnd, and-le-l}
+use lib.Bits.{bitAnd, and-le-l, and-le-r}
 use lib.ListN.{length, getD, take, replicate, length-reverse, List·getD-append}
 use lib.Pow.{pow-pos}
 use lib.Seq.{getD-append-add, length-take-le, getD-take}
@@ -199,3 +199,15 @@ module _ (w : ℕ) (k : Controls) (hk : length (k .stages) ≡ 6) where
     pub inverse-prepared-below : exchangesOf (rising 6) (reverse (prepareAnswer true w k .swaps)) x % 2 ^ w ≡ networkAnswer inverseOf w k (x % 2 ^ w) .word
     unfolding inverseOf travelOf
     inverse-prepared-below = prepared-below true
+
+-- A mask's network, decoded and prepared at width 64, gathers and scatters any number of words.
+module _ (m : ℕ) (h : m < 2 ^ 64) (x : ℕ) where
+  pub prepared-gathers : exchangesOf (rising 6) (reverse (preparedOf true 6 (decodeInverseOf 6 m))) (bitAnd x m) ≡ gatherOf 64 m x
+  unfolding decodeInverseOf travelOf inverseOf
+  prepared-gathers =
+      let d = decodeOf 6 m in
+      six-same 6 (omega arith) (reverse d) (length-reverse d ∙ length-decode 6 m) true (omega (arith, and-le-r x m)) ∙ mask-routing-gather 6 m x h
+
+  pub prepared-scatters : x < 2 ^ 64 → bitAnd (exchangesOf (falling 6) (preparedOf false 6 (decodeOf 6 m)) x) m ≡ scatterOf 64 m x
+  unfolding travelOf butterflyOf
+  prepared-scatters l = ap (λ (y : ℕ). bitAnd y m) (six-same 6 (omega arith) (decodeOf 6 m) (length-decode 6 m) false l) ∙ mask-routing-scatter 6 m x h

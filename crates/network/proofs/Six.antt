@@ -174,12 +174,6 @@ module _ (L : ℕ) (hL : L ≤ 6) (cs : List ℕ) (hc : length cs ≡ 6) where
         ∙ used-only x
 
   module _ {x : ℕ} (h : x < 2 ^ 2 ^ L) where
-    pub six-butterfly : exchangesOf (falling 6) (preparedOf false L cs) x ≡ travelOf false L cs x
-    six-butterfly = six-same false h
-
-    pub six-inverse : exchangesOf (rising 6) (reverse (preparedOf true L cs)) x ≡ travelOf true L cs x
-    six-inverse = six-same true h
-
     -- by the steps of the code
     pub sent : (b : Bool) {bs ws : List ℕ} {y : ℕ} → bs ≡ byIndex b L cs → ws ≡ swapsAt (falling 6) bs → y ≡ exchanges b ws x → y ≡ travelOf b L cs x
     sent b p q r = r ∙ ap (λ (ws : List ℕ). exchanges b ws x) (q ∙ ap (swapsAt (falling 6)) p) ∙ six-same b h

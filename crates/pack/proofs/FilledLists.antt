@@ -1,13 +1,13 @@
 -- Lists filled from the front. Assumes nothing.
-use mathlib.Core.Path.{_≡_, refl, _∙_, ap, ap₂}
-use mathlib.Core.List.{List, [], _∷_, _++_, append-assoc, append-nil}
+use mathlib.Core.Path.{_≡_, refl, sym, _∙_, ap, ap₂}
+use mathlib.Core.List.{List, [], _∷_, _++_, append-assoc, append-nil, map}
 use Prim.Native.Nat.{ℕ, zero, suc, _+_, _-_, _<_, _≤_}
 use native.Mathlib.Omega.{arith}
 use native.Mathlib.Decide.{decLt}
 use native.Mathlib.Nat.{not-suc-le-zero}
 use native.Mathlib.Numerals.{add-one}
 use lib.ListN.{length, getD, drop, set, length-append, length-drop, drop-of-length-le, List·getD-append}
-use lib.Seq.{drop-cons, set-at, getD-at}
+use lib.Seq.{drop-cons, drop-at, set-at, getD-at}
 use Rattle.pack.specs.Fields.{upTo, overwritten}
 
 module _ (f : ℕ → ℕ) where
@@ -42,6 +42,18 @@ module _ (f : ℕ → ℕ) where
       ∙ set-at (upTo j f) (getD old j 0) (drop (suc j) old) v j (length-upTo j)
       ∙ rw (add-one j, q, append-assoc)
 
+  -- what stood behind the words that are filled is in the list itself
+  pub fill-own : (j : ℕ) (old : List ℕ) {out : List ℕ} → out ≡ overwritten j f old → out ≡ overwritten j f out
+  fill-own j old {out} e =
+      e ∙ ap (λ (l : List ℕ). upTo j f ++ l) (sym (ap (drop j) e ∙ drop-at (upTo j f) (drop j old) j (length-upTo j)))
+
+  -- the last of them may count as one behind
+  pub fill-less : (j : ℕ) (old : List ℕ) {out : List ℕ} → out ≡ overwritten (j + 1) f old → out ≡ overwritten j f out
+  unfolding upTo
+  fill-less j old {out} e =
+      let q : out ≡ upTo j f ++ (f j ∷ drop (suc j) old) = e ∙ rw (add-one j, append-assoc) in
+      q ∙ ap (λ (l : List ℕ). upTo j f ++ l) (sym (ap (drop j) q ∙ drop-at (upTo j f) (f j ∷ drop (suc j) old) j (length-upTo j)))
+
   pub fill-all : (j : ℕ) (old : List ℕ) → length old ≤ j → overwritten j f old ≡ upTo j f
   fill-all j old h = ap (λ (l : List ℕ). upTo j f ++ l) (drop-of-length-le old h) ∙ append-nil (upTo j f)
 
@@ -50,3 +62,8 @@ unfolding upTo
 upTo-same zero f g e = refl
 upTo-same (suc n) f g e =
     ap₂ (λ (l : List ℕ) (x : ℕ). l ++ (x ∷ [])) (upTo-same n f g (λ i h. e i (omega arith))) (e n (omega arith))
+
+pub map-at : (f : ℕ → ℕ) (xs : List ℕ) (i : ℕ) → i < length xs → getD (map f xs) i 0 ≡ f (getD xs i 0)
+map-at f [] i h = absurd (not-suc-le-zero h)
+map-at f (x ∷ xs) zero h = refl
+map-at f (x ∷ xs) (suc i) h = map-at f xs i (omega arith)

@@ -1,7 +1,9 @@
 pub mod FilledLists
 pub mod Stream
 pub mod Reading
-pub mod PreparedMask
+pub mod Gaps
+pub mod BitRoutes
+pub mod WholeWords
 pub mod FieldAnswers
 pub mod Turns
 pub mod Theorems

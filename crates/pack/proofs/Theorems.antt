@@ -13,11 +13,10 @@ use Rattle.bits.proofs.Word.{bit-mod-two, bit-ofBits, ofBits-lt, ext}
 use Rattle.bits.proofs.Places.{pick-marked-lt}
 use Rattle.gather.specs.Gather.{gatherOf, scatterOf}
 use Rattle.gather.proofs.Theorems.{scatter-gather}
-use Rattle.network.proofs.Filling.{map-at}
 use Rattle.pack.specs.declared.Packed.{Packed}
 use Rattle.pack.specs.Fields.{upTo, sizeOf, needed, cut, fieldsOf, streamOf, wordAt, packInto, packedBit, fieldAt, scatteredAt, unpackInto}
 use Rattle.pack.specs.Calls.{fieldsConditions, packAnswer, packedOut, unpackAnswer, unpackedOut}
-use Rattle.pack.proofs.FilledLists.{length-upTo, getD-upTo, upTo-same, length-overwritten}
+use Rattle.pack.proofs.FilledLists.{length-upTo, getD-upTo, upTo-same, length-overwritten, map-at}
 use Rattle.pack.proofs.Stream.{ofBits-same}
 use Rattle.pack.proofs.Reading.{bit-packed}
 use Rattle.pack.proofs.Turns.{stream-word, stream-end, next-field}

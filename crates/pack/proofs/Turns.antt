@@ -3,20 +3,22 @@ use mathlib.Core.Path.{_≡_, refl, sym, _∙_, ap, ap₂}
 use mathlib.Core.List.{List}
 use Prim.Native.Nat.{ℕ, zero, suc, _+_, _-_, _*_, _/_, _%_, _^_, _<_, _≤_}
 use native.Mathlib.Omega.{arith}
+use native.Mathlib.Decide.{ℕ-discrete}
 use native.Mathlib.Nat.{mul-le-mul-left}
 use lib.Arith.{digits-lt, digits-div, digits-mod}
 use lib.ListN.{length, getD, set, length-map}
-use borrow.Author.Tests.{lt-ltb, le-ltb}
+use borrow.Author.Tests.{lt-ltb, le-ltb, eq-eqb, ne-eqb}
 use Rattle.bits.specs.Bit.{bit, ofBits}
 use Rattle.bits.proofs.Word.{bit-mod-two, bit-ofBits, ofBits-lt, ofBits-add, ext}
 use Rattle.bits.proofs.Places.{pick-marked-lt}
 use Rattle.gather.specs.Gather.{gatherOf, scatterOf}
-use Rattle.network.proofs.Filling.{map-at}
 use Rattle.pack.specs.declared.Cursor.{Cursor}
+use Rattle.pack.specs.declared.Pair.{Pair}
 use Rattle.pack.specs.declared.Taken.{Taken}
 use Rattle.pack.specs.Fields.{sizeOf, needed, fieldsOf, streamBit, streamOf, wordAt, packInto, scatteredAt, overwritten}
-use Rattle.pack.specs.Cursor.{cursorStart, Holds, Puts, Awaits, Takes}
-use Rattle.pack.proofs.FilledLists.{length-overwritten, fill-none, fill-next}
+use Rattle.pack.specs.Cursor.{cursorStart, Holds, Puts, PutsPair, Gathers, finished, Awaits, Takes}
+use Rattle.pack.proofs.FilledLists.{length-overwritten, fill-none, fill-next, map-at}
+use Rattle.pack.proofs.Stream.{ofBits-same}
 use Rattle.pack.proofs.Reading.{scatter-read}
 
 -- the stream of a list of fields
@@ -58,7 +60,7 @@ module _ (m : ℕ) (ws old : List ℕ) where
       stream-at (sizeOf m) (fieldsOf m ws) f i (omega (arith, length-map ws (gatherOf 64 m))) l
       ∙ ap (λ (x : ℕ). bit x i) (map-at (gatherOf 64 m) ws f h)
 
-  field-bits : (f : ℕ) → f < length ws → gatherOf 64 m (getD ws f 0) ≡ ofBits (sizeOf m) (λ i. stream (sizeOf m * f + i))
+  pub field-bits : (f : ℕ) → f < length ws → gatherOf 64 m (getD ws f 0) ≡ ofBits (sizeOf m) (λ i. stream (sizeOf m * f + i))
   unfolding gatherOf
   field-bits f h =
       let g : ℕ → ℕ = λ i. stream (sizeOf m * f + i) in
@@ -67,32 +69,44 @@ module _ (m : ℕ) (ws old : List ℕ) where
       sym
       (bit-ofBits (sizeOf m) g i l ∙ ap (λ (n : ℕ). n % 2) (stream-word f i h l) ∙ bit-mod-two (gatherOf 64 m (getD ws f 0)) i))
 
+  -- the first word's field, in a cursor that has written nothing
+  pub pack-begins : {size field : ℕ} → 0 < length ws → size ≡ sizeOf m → size < 64 → field ≡ gatherOf 64 m (getD ws 0 0)
+      → Holds stream (sizeOf m * 1) (record { word = 0; held = size; pending = field }) old old
+  pack-begins {size} h e l f = record {
+    at = omega arith;
+    within = l;
+    bits = f ∙ rw (e) (field-bits 0 h ∙ ofBits-same (sizeOf m) (λ i. stream (sizeOf m * 0 + i)) (λ i. stream (64 * 0 + i))
+        (λ i _. let q : sizeOf m * 0 + i ≡ 64 * 0 + i = omega arith in ap stream q));
+    words = fill-none (wordAt stream) old;
+  }
+
   pub pack-turn : {i : ℕ} {c r : Cursor} {size field : ℕ} {before after : List ℕ} → i < length ws → Holds stream (sizeOf m * i) c old before
       → size ≡ sizeOf m → field ≡ gatherOf 64 m (getD ws i 0) → Puts c size field before r after → Holds stream (sizeOf m * (i + 1)) r old after
   pack-turn {i} {c} {r} {size} {field} {before} {after} h inv e f p =
       let n : sizeOf m * i + size ≡ sizeOf m * (i + 1) = omega arith in
       rw n at (p .next stream (sizeOf m * i) old inv (f ∙ rw e (field-bits i h)))
 
+  pub pair-turn : {i : ℕ} {c r : Cursor} {size : ℕ} {pair : Pair} {before after : List ℕ} → i + 1 < length ws → Holds stream (sizeOf m * i) c old before
+      → size ≡ sizeOf m → Gathers m ws i pair → PutsPair c size pair before r after → Holds stream (sizeOf m * (i + 2)) r old after
+  pair-turn {i} h inv e g p =
+      let n : i + 1 + 1 ≡ i + 2 = omega arith in
+      rw n at (pack-turn h (pack-turn (omega arith) inv e (g .low) (p .low)) e (g .high) (p .high))
+
   module _ (fits : needed (sizeOf m * length ws) ≤ length old) where
-    pub pack-room : {i : ℕ} {c : Cursor} {size : ℕ} {out : List ℕ} → i < length ws → Holds stream (sizeOf m * i) c old out → size ≡ sizeOf m
-        → 64 ≤ c .held + size → c .word < length out
-    pack-room {i} {c} h inv e l =
+    -- room for two fields
+    pub pair-room : (i : ℕ) {c : Cursor} {size : ℕ} {out : List ℕ} → i + 1 < length ws → Holds stream (sizeOf m * i) c old out → size ≡ sizeOf m
+        → 64 * c .word + c .held + (size + size) ≤ 64 * length out
+    pair-room i {c} h inv e =
         omega (
           arith,
           inv .at,
-          next-field (sizeOf m) i (length ws) h,
+          next-field (sizeOf m) i (length ws) (omega arith),
+          next-field (sizeOf m) (i + 1) (length ws) h,
           length-overwritten (wordAt stream) (c .word) old,
           ap length (inv .words),
         )
 
     module _ {c : Cursor} {out : List ℕ} (inv : Holds stream (sizeOf m * length ws) c old out) where
-      -- the last word is full
-      pub pack-whole : c .held ≡ 0 → out ≡ packInto m ws old
-      unfolding packInto
-      pack-whole z =
-          let n : c .word ≡ needed (sizeOf m * length ws) = omega (arith, inv .at) in
-          inv .words ∙ ap (λ (j : ℕ). overwritten j (wordAt stream) old) n
-
       pub last-room : (c .held ≡ 0 → ⊥) → c .word < length out
       last-room z = omega (arith, inv .at, z, length-overwritten (wordAt stream) (c .word) old, ap length (inv .words))
 
@@ -112,12 +126,20 @@ module _ (m : ℕ) (ws old : List ℕ) where
           ∙ ofBits-add (c .held) (64 - c .held) g
           ∙ omega (arith, ap (λ (n : ℕ). n * 2 ^ c .held) z))
 
-      pub pack-last : (c .held ≡ 0 → ⊥) → set out (c .word) (c .pending) ≡ packInto m ws old
+      -- the last word is full, or written now
+      pub pack-finished : finished c out ≡ packInto m ws old
       unfolding packInto
-      pack-last z =
-          let n : c .word + 1 ≡ needed (sizeOf m * length ws) = omega (arith, inv .at, inv .within, z) in
-          fill-next (wordAt stream) (c .word) old (last-room z) (inv .words) last-word
-          ∙ ap (λ (j : ℕ). overwritten j (wordAt stream) old) n
+      pack-finished = by-cases (ℕ-discrete (c .held) 0)
+        where
+          by-cases : Dec (c .held ≡ 0) → finished c out ≡ packInto m ws old
+          by-cases (yes z) =
+              let n : c .word ≡ needed (sizeOf m * length ws) = omega (arith, inv .at) in
+              rw (eq-eqb (c .held) 0 z) (inv .words ∙ ap (λ (j : ℕ). overwritten j (wordAt stream) old) n)
+          by-cases (no z) =
+              let n : c .word + 1 ≡ needed (sizeOf m * length ws) = omega (arith, inv .at, inv .within, z) in
+              rw (ne-eqb (c .held) 0 z)
+              (fill-next (wordAt stream) (c .word) old (last-room z) (inv .words) last-word
+              ∙ ap (λ (j : ℕ). overwritten j (wordAt stream) old) n)
 
 -- Unpacking.
 

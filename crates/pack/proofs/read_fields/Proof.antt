@@ -1,98 +1,110 @@
--- `pack::read_fields` meets its contract: before turn i, the first i fields are scattered. Assumes nothing.
-use mathlib.Core.Path.{_≡_, _∙_}
-use Prim.Native.Nat.{_≤_, _-_, _*_}
+-- `pack::read_fields` meets its contract. Assumes nothing.
+use mathlib.Core.Path.{_≡_, _∙_, ap}
+use Prim.Native.Nat.{ℕ, _+_, _≤_, _-_, _*_}
 use native.Mathlib.Omega.{arith}
 use borrow.Author.Needs.{needs}
-use lib.ListN.{length, length-set}
+use lib.ListN.{length}
 use Rattle.bits.proofs.Rank.{rank-le}
-use Rattle.pack.specs.Fields.{sizeOf, scatteredAt, overwritten}
+use Rattle.pack.specs.Fields.{upTo, sizeOf, scatteredAt}
 use Rattle.pack.specs.Cursor.{Awaits}
 use Rattle.pack.proofs.FilledLists.{fill-none, fill-next, fill-all}
-use Rattle.pack.proofs.Turns.{unpack-starts, unpack-room, unpack-turn, unpack-field}
+use Rattle.pack.proofs.Turns.{unpack-starts, unpack-room, unpack-field}
+use Rattle.pack.proofs.WholeWords.{copied-unpacked}
 use Rattle.pack.proofs.read_fields.Statement.{statement}
 use Rattle.pack.proofs.read_fields.Tie as tie
 
-abbrev Inv-loop : tie.InvT-loop
-Inv-loop mask packed out₀ size swaps cursor₀ i₀ out cursor i = (i ≤ length out₀) × (length out ≡ length out₀) × Awaits packed (sizeOf mask * i) cursor
-    × (out ≡ overwritten i (scatteredAt mask packed) out₀)
-
-abbrev μ-loop : tie.MeasureT-loop
-μ-loop mask packed out₀ size swaps cursor₀ i₀ out cursor i = length out₀ - i
-
-count-requires : tie.Need-count-requires Inv-loop μ-loop
+count-requires : tie.Need-count-requires
 count-requires c κs = search needs
 
-routes-requires : tie.Need-routes-requires Inv-loop μ-loop
-routes-requires c κs = search needs
+-- all 64 places are marked
+whole : (t : tie.Then1) → sizeOf (t .before .before .before .before .args .mask) ≡ 64
+whole t = omega (arith, t .before .count .ensures, t .if1 .taken)
 
-start-requires : tie.Need-start-requires Inv-loop μ-loop
-start-requires c κs = search needs
+copy-words-requires : tie.Need-copy-words-requires
+copy-words-requires c κs = let r = rw (whole (c .before)) at (c .before .before .before .before .before .pre) in (omega arith, search needs)
 
-loop-holds : tie.Need-loop-holds Inv-loop μ-loop
-loop-holds c = (search needs, search needs, unpack-starts _ _ (c .start .ensures), fill-none _ _)
-
-take-requires : tie.Need-take-requires Inv-loop μ-loop
-take-requires c κs =
-    let l = c .before in
-    let k = l .before .before .before in
-    let a = k .before .before .before .args in (
-      search needs,
-      omega (arith, rank-le (a .mask) 64, k .count .ensures),
-      unpack-room (a .mask) (a .packed .now) (k .before .before .before .pre) (search needs) (l .loop .inv .2) (k .count .ensures),
-    )
-
-scattered-requires : tie.Need-scattered-requires Inv-loop μ-loop
-scattered-requires c κs = search needs
-
-mul-out : tie.Need-mul-out Inv-loop μ-loop
-mul-out c = search needs
-
-slice-write-out : tie.Need-slice-write-out Inv-loop μ-loop
-slice-write-out c = search needs
-
-add-i : tie.Need-add-i Inv-loop μ-loop
-add-i c = search needs
-
-loop-less : tie.Need-loop-less Inv-loop μ-loop
-loop-less c = search needs
-
-loop-again : tie.Need-loop-again Inv-loop μ-loop
-loop-again c =
-    let t = c .before .before in
-    let l = t .before .before in
-    let k = l .before .before .before .count .ensures in (
-      search needs,
-      simp length-set (search needs),
-      unpack-turn _ _ (l .loop .i) (l .loop .inv .2) k (t .take .ensures),
-      fill-next _ (l .loop .i) _ (search needs) (l .loop .inv .3) (c .scattered .ensures ∙ unpack-field _ _ (l .loop .i) (l .loop .inv .2) k (t .take .ensures)),
-    )
-
-same-length : tie.Need-same-length Inv-loop μ-loop
+same-length : tie.Need-same-length
 same-length c = search needs
 
-returns : tie.Need-returns Inv-loop μ-loop
+returns : tie.Need-returns
 returns c =
-    let l = c .before in
-    let a = l .before .before .before .before .before .before .args in
-    let e : l .loop .i ≡ length (a .out .now) = search needs in
-    rw e at (l .loop .inv .3) ∙ fill-all _ _ _ (search needs)
+    let t = c .before .before .before .before in
+    let a = t .before .before .before .before .args in
+    copied-unpacked (a .mask) (whole t) (a .packed .now) (a .out .now) (c .before .before .copy-words .ensures)
+
+returns-2 : tie.Need-returns-2
+returns-2 c =
+    let a = c .before .before .before .before .before .args in
+    let f = scatteredAt (a .mask) (a .packed .now) in
+    let e : 0 ≡ length (a .out .now) = omega (arith, c .if2 .taken) in
+    fill-none f (a .out .now) ∙ fill-all f 0 (a .out .now) (omega arith) ∙ ap (λ (n : ℕ). upTo n f) e
+
+moves-requires : tie.Need-moves-requires
+moves-requires c κs = search needs
+
+start-requires : tie.Need-start-requires
+start-requires c κs = search needs
+
+started : (c : tie.After-start)
+    → let a = c .before .before .before .before .before .before .before .before .args in
+    Awaits (a .packed .now) (sizeOf (a .mask) * 0) (c .start .result)
+started c = unpack-starts _ _ (c .start .ensures)
+
+take-requires : tie.Need-take-requires
+take-requires c κs =
+    let k = c .before .before .before .before .before in
+    let b = k .before .before .before in (
+      started c .within,
+      omega (arith, rank-le (b .args .mask) 64, k .count .ensures),
+      unpack-room (b .args .mask) (b .args .packed .now) (b .pre) (search needs) (started c) (k .count .ensures),
+    )
+
+scattered-requires : tie.Need-scattered-requires
+scattered-requires c κs = search needs
+
+slice-write-out : tie.Need-slice-write-out
+slice-write-out c = search needs
+
+same-length-2 : tie.Need-same-length-2
+same-length-2 c = search needs
+
+returns-3 : tie.Need-returns-3
+returns-3 c =
+    let s = c .before .before in
+    let k = s .before .before .before .before .before in
+    let a = k .before .before .before .args in
+    let f = scatteredAt (a .mask) (a .packed .now) in
+    let e : 0 + 1 ≡ length (a .out .now) = search needs in
+    fill-next f 0 (a .out .now) (search needs) (fill-none f (a .out .now))
+    (c .scattered .ensures ∙ unpack-field _ _ 0 (started s) (k .count .ensures) (c .before .take .ensures))
+    ∙ fill-all f (0 + 1) (a .out .now) (omega (arith, e))
+    ∙ ap (λ (n : ℕ). upTo n f) e
+
+read-pairs-requires : tie.Need-read-pairs-requires
+read-pairs-requires c κs = search needs
+
+same-length-3 : tie.Need-same-length-3
+same-length-3 c = search needs
+
+returns-4 : tie.Need-returns-4
+returns-4 c = search needs
 
 pub read-fields-spec : {M : Type 1} → statement M
 read-fields-spec =
     tie.close
     (tie.spec
-    Inv-loop
-    μ-loop
     count-requires
-    routes-requires
+    copy-words-requires
+    same-length
+    returns
+    returns-2
+    moves-requires
     start-requires
-    loop-holds
     take-requires
     scattered-requires
-    mul-out
     slice-write-out
-    add-i
-    loop-less
-    loop-again
-    same-length
-    returns)
+    same-length-2
+    returns-3
+    read-pairs-requires
+    same-length-3
+    returns-4)

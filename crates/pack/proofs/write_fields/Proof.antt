@@ -1,119 +1,66 @@
--- `pack::write_fields` meets its contract: before turn i, the fields of the first i words are put. Assumes nothing.
-use mathlib.Core.Path.{_≡_}
-use Prim.Native.Nat.{_≤_, _<_, _-_, _*_}
+-- `pack::write_fields` meets its contract. Assumes nothing.
+use mathlib.Core.Path.{_≡_, _∙_}
 use native.Mathlib.Omega.{arith}
 use borrow.Author.Needs.{needs}
-use lib.ListN.{length, length-set}
 use Rattle.bits.proofs.Rank.{rank-le}
-use Rattle.pack.specs.Fields.{sizeOf, streamOf}
-use Rattle.pack.specs.Cursor.{Holds}
-use Rattle.pack.proofs.Turns.{pack-starts, pack-turn, pack-room, pack-whole, last-room, pack-last}
+use Rattle.pack.specs.Fields.{sizeOf}
+use Rattle.pack.proofs.Turns.{last-room, pack-finished}
+use Rattle.pack.proofs.WholeWords.{copied-packed}
 use Rattle.pack.proofs.write_fields.Statement.{statement}
 use Rattle.pack.proofs.write_fields.Tie as tie
 
-abbrev Inv-loop : tie.InvT-loop
-Inv-loop mask words out₀ size swaps cursor₀ i₀ out cursor i = (i ≤ length words) × (length out ≡ length out₀)
-    × Holds (streamOf mask words) (sizeOf mask * i) cursor out₀ out
-
-abbrev μ-loop : tie.MeasureT-loop
-μ-loop mask words out₀ size swaps cursor₀ i₀ out cursor i = length words - i
-
-count-requires : tie.Need-count-requires Inv-loop μ-loop
+count-requires : tie.Need-count-requires
 count-requires c κs = search needs
 
-routes-requires : tie.Need-routes-requires Inv-loop μ-loop
-routes-requires c κs = search needs
+-- all 64 places are marked
+whole : (t : tie.Then1) → sizeOf (t .before .before .before .before .args .mask) ≡ 64
+whole t = omega (arith, t .before .count .ensures, t .if1 .taken)
 
-start-requires : tie.Need-start-requires Inv-loop μ-loop
-start-requires c κs = search needs
+copy-words-requires : tie.Need-copy-words-requires
+copy-words-requires c κs = let r = rw (whole (c .before)) at (c .before .before .before .before .before .pre) in (search needs, omega arith)
 
-loop-holds : tie.Need-loop-holds Inv-loop μ-loop
-loop-holds c = (search needs, search needs, pack-starts _ (c .before .before .before .before .before .args .words .now) _ (c .start .ensures))
-
-mul-gathered : tie.Need-mul-gathered Inv-loop μ-loop
-mul-gathered c = search needs
-
-shared-slice-read-gathered : tie.Need-shared-slice-read-gathered Inv-loop μ-loop
-shared-slice-read-gathered c = search needs
-
-gathered-requires : tie.Need-gathered-requires Inv-loop μ-loop
-gathered-requires c κs = search needs
-
-put-requires : tie.Need-put-requires Inv-loop μ-loop
-put-requires c κs =
-    let l = c .before .before .before .before in
-    let k = l .before .before .before in
-    let a = k .before .before .before .args in (
-      search needs,
-      omega (arith, rank-le (a .mask) 64, k .count .ensures),
-      pack-room (a .mask) (a .words .now) (a .out .now) (search needs) (search needs) (l .loop .inv .2) (k .count .ensures),
-    )
-
-add-i : tie.Need-add-i Inv-loop μ-loop
-add-i c = search needs
-
-loop-less : tie.Need-loop-less Inv-loop μ-loop
-loop-less c = search needs
-
-loop-again : tie.Need-loop-again Inv-loop μ-loop
-loop-again c =
-    let p = c .before .before in
-    let g = p .before .before in
-    let l = g .before .before .before in
-    let k = l .before .before .before in
-    let ws = k .before .before .before .args .words .now in
-    (search needs, search needs, pack-turn _ ws _ (search needs) (l .loop .inv .2) (k .count .ensures) (g .gathered .ensures) (p .put .ensures))
-
--- all fields are put
-ended : (l : tie.At-loop Inv-loop μ-loop) → l .loop .i ≡ length (l .before .before .before .before .before .before .args .words .now)
-    → let a = l .before .before .before .before .before .before .args in
-    Holds (streamOf (a .mask) (a .words .now)) (sizeOf (a .mask) * length (a .words .now)) (l .loop .cursor) (a .out .now) (l .loop .out)
-ended l e = rw e at (l .loop .inv .2)
-
-same-length : tie.Need-same-length Inv-loop μ-loop
+same-length : tie.Need-same-length
 same-length c = search needs
 
-returns : tie.Need-returns Inv-loop μ-loop
-returns c = pack-whole _ _ _ (search needs) (ended (c .before .before .before) (search needs)) (c .if1 .taken)
+returns : tie.Need-returns
+returns c =
+    let t = c .before .before .before .before in
+    let a = t .before .before .before .before .args in
+    copied-packed (a .mask) (whole t) (a .words .now) (a .out .now) (c .before .before .copy-words .ensures)
 
-last : (c : tie.Else1 Inv-loop μ-loop) → c .before .before .before .loop .cursor .word < length (c .before .before .before .loop .out)
-last c =
-    let l = c .before .before .before in
-    let a = l .before .before .before .before .before .before .args in
-    last-room (a .mask) (a .words .now) (a .out .now) (search needs) (ended l (search needs)) (c .if1 .left)
+moves-requires : tie.Need-moves-requires
+moves-requires c κs = search needs
 
-mul-out : tie.Need-mul-out Inv-loop μ-loop
-mul-out c = omega (arith, last c, c .before .before .before .before .before .before .before .before .before .good)
+write-pairs-requires : tie.Need-write-pairs-requires
+write-pairs-requires c κs =
+    let b = c .before .before .before .before .before .before in
+    (c .before .moves .ensures, search needs, omega (arith, rank-le (b .args .mask) 64, c .before .before .before .count .ensures, c .before .before .if1 .left), search needs)
 
-slice-write-out : tie.Need-slice-write-out Inv-loop μ-loop
-slice-write-out c = last c
+finish-requires : tie.Need-finish-requires
+finish-requires c κs =
+    let w = c .before .before .before in
+    let b = w .before .before .before .before .before .before .before in
+    last-room (b .args .mask) (b .args .words .now) (b .args .out .now) (b .pre) (w .write-pairs .ensures)
 
-same-length-2 : tie.Need-same-length-2 Inv-loop μ-loop
-same-length-2 c = simp length-set (search needs)
+same-length-2 : tie.Need-same-length-2
+same-length-2 c = search needs
 
-returns-2 : tie.Need-returns-2 Inv-loop μ-loop
-returns-2 c = pack-last _ _ _ (search needs) (ended (c .before .before .before) (search needs)) (c .if1 .left)
+returns-2 : tie.Need-returns-2
+returns-2 c =
+    let w = c .before .before .before .before .before .before in
+    let b = w .before .before .before .before .before .before .before in
+    c .before .before .finish .ensures ∙ pack-finished (b .args .mask) (b .args .words .now) (b .args .out .now) (b .pre) (w .write-pairs .ensures)
 
 pub write-fields-spec : {M : Type 1} → statement M
 write-fields-spec =
     tie.close
     (tie.spec
-    Inv-loop
-    μ-loop
     count-requires
-    routes-requires
-    start-requires
-    loop-holds
-    mul-gathered
-    shared-slice-read-gathered
-    gathered-requires
-    put-requires
-    add-i
-    loop-less
-    loop-again
+    copy-words-requires
     same-length
     returns
-    mul-out
-    slice-write-out
+    moves-requires
+    write-pairs-requires
+    finish-requires
     same-length-2
     returns-2)

@@ -19,7 +19,7 @@ add-t10 c = search needs
 returns : tie.Need-returns
 returns c =
     let a = c .before .before .args in
-    record { next = λ s n old h e. put-stays (a .self) (a .size) (a .field) s n old h e (search needs) }
+    record { at = omega arith; within = search needs; next = λ s n old h e. put-stays (a .self) (a .size) (a .field) s n old h e (search needs) }
 
 room : (c : tie.Else1) → c .before .before .args .self .word < length (c .before .before .args .out .now)
 room c = c .before .before .pre .2 (search needs)
@@ -52,6 +52,8 @@ returns-2 : tie.Need-returns-2
 returns-2 c =
     let a = c .before .before .args in
     record {
+      at = omega arith;
+      within = search needs;
       next = λ s n old h e.
           put-completes (a .self) (a .size) (a .field) s n old h e (search needs) (search needs) (room c);
     }
