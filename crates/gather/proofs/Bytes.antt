@@ -1,12 +1,13 @@
 -- The three levels of 64 bits: their lists of moves pass the computed tests, and so the code's moves gather and scatter within bytes. Assumes nothing.
 use mathlib.Core.Path.{_≡_, refl, sym, _∙_, ap, ap₂}
-use mathlib.Core.Bool.{true}
+use mathlib.Core.Bool.{true, _&&_}
 use mathlib.Core.List.{[], _∷_}
 use Prim.Native.Nat.{ℕ, zero, suc, _+_, _*_, _/_, _%_, _^_, _<_, _≤_, _-_, min}
 use native.Mathlib.Omega.{arith}
 use native.Mathlib.Nat.{mod-lt}
 use lib.Bits.{bitAnd, and-mod}
 use Rattle.bits.specs.Bit.{bit, rank, places, ofBits, pick, put}
+use Rattle.bits.proofs.Refusals.{both}
 use Rattle.bits.proofs.Word.{bit-zero, bit-and, bit-lt}
 use Rattle.bits.proofs.Places.{pick-marked-suc, put-marked-suc}
 use Rattle.gather.specs.Gather.{gatherOf, scatterOf}
@@ -26,29 +27,31 @@ moves2 = (1, 12) ∷ (2, 6) ∷ []
 abbrev moves4 : Moves
 moves4 = (1, 240) ∷ (2, 124) ∷ (4, 60) ∷ []
 
-joins1 : joins 1 moves1 ≡ true
-unfolding joins joinsAt every inside downs
-joins1 = refl
+-- at each level they join and split every part
+abbrev Settles : ℕ → Moves → Type 0
+Settles s ps = (joins s ps && splits s ps) ≡ true
 
-joins2 : joins 2 moves2 ≡ true
-unfolding joins joinsAt every inside downs
-joins2 = refl
+level1 : Settles 1 moves1
+unfolding joins joinsAt splits splitsAt every inside downs ups
+level1 = refl
 
-joins4 : joins 4 moves4 ≡ true
-unfolding joins joinsAt every inside downs
-joins4 = refl
+level2 : Settles 2 moves2
+unfolding joins joinsAt splits splitsAt every inside downs ups
+level2 = refl
 
-splits1 : splits 1 moves1 ≡ true
-unfolding splits splitsAt every inside ups
-splits1 = refl
+level4 : Settles 4 moves4
+unfolding joins joinsAt splits splitsAt every inside downs ups
+level4 = refl
 
-splits2 : splits 2 moves2 ≡ true
-unfolding splits splitsAt every inside ups
-splits2 = refl
+gathers : (s n : ℕ) (ps : Moves) → Settles s ps → (m x : ℕ) → downAll (s + s) n ps (gapsOf s n m) (gatherParts s (n + n) m x) ≡ gatherParts (s + s) n m x
+gathers s n ps t = gather-level s n ps (both (joins s ps) (splits s ps) t .0)
 
-splits4 : splits 4 moves4 ≡ true
-unfolding splits splitsAt every inside ups
-splits4 = refl
+module _ (s n : ℕ) (ps : Moves) (t : Settles s ps) (e : (s + s) * n ≡ 64) (m : ℕ) {y : ℕ} (l : y < 2 ^ 64) where
+  scatters : scatterParts s (n + n) m (upAll (s + s) n ps (gapsOf s n m) y) ≡ scatterParts (s + s) n m y
+  scatters = scatter-level s ps (both (joins s ps) (splits s ps) t .1) n e m l
+
+  ups-lt : upAll (s + s) n ps (gapsOf s n m) y < 2 ^ 64
+  ups-lt = up-lt s ps (both (joins s ps) (splits s ps) t .1) n e m l
 
 -- in parts of one bit both are the marked bits
 
@@ -133,9 +136,9 @@ module _ (m x : ℕ) (l : m < 2 ^ 64) (h : x < 2 ^ 64) {ls : Levels} (e : ls ≡
       → y6 ≡ down 4 (bitAnd (ls .gaps4) 0x0404040404040404 * 60) y5 → y6 ≡ gatherParts 8 8 m x
   unfolding levelsOf
   gather-bytes {y1} {y2} {y3} {y4} {y5} {y6} e1 e2 e3 e4 e5 e6 =
-      let twos : y1 ≡ gatherParts 2 32 m x = rw (e1, e) (down1 _ _ ∙ ap (downAll 2 32 moves1 (gapsOf 1 32 m)) (gather-bits l h) ∙ gather-level 1 32 moves1 joins1 m x) in
-      let fours : y3 ≡ gatherParts 4 16 m x = rw (e3, e2, twos, e) (down2 _ _ ∙ gather-level 2 16 moves2 joins2 m x) in
-      rw (e6, e5, e4, fours, e) (down4 _ _ ∙ gather-level 4 8 moves4 joins4 m x)
+      let twos : y1 ≡ gatherParts 2 32 m x = rw (e1, e) (down1 _ _ ∙ ap (downAll 2 32 moves1 (gapsOf 1 32 m)) (gather-bits l h) ∙ gathers 1 32 moves1 level1 m x) in
+      let fours : y3 ≡ gatherParts 4 16 m x = rw (e3, e2, twos, e) (down2 _ _ ∙ gathers 2 16 moves2 level2 m x) in
+      rw (e6, e5, e4, fours, e) (down4 _ _ ∙ gathers 4 8 moves4 level4 m x)
 
   pub scatter-bytes : {y1 y2 y3 y4 y5 y6 : ℕ} → y1 ≡ up 4 (bitAnd (ls .gaps4) 0x0404040404040404 * 60) x
       → y2 ≡ up 2 (bitAnd (ls .gaps4) 0x0202020202020202 * 124) y1 → y3 ≡ up 1 (bitAnd (ls .gaps4) 0x0101010101010101 * 240) y2
@@ -146,10 +149,10 @@ module _ (m x : ℕ) (l : m < 2 ^ 64) (h : x < 2 ^ 64) {ls : Levels} (e : ls ≡
       let eight : y3 ≡ upAll 8 8 moves4 (gapsOf 4 8 m) x = rw (e3, e2, e1, e) (up4 _ _) in
       let four : y5 ≡ upAll 4 16 moves2 (gapsOf 2 16 m) y3 = rw (e5, e4, e) (up2 _ _) in
       let two : y6 ≡ upAll 2 32 moves1 (gapsOf 1 32 m) y5 = rw (e6, e) (up1 _ _) in
-      let l3 : y3 < 2 ^ 64 = rw eight (up-lt 4 moves4 splits4 8 refl m h) in
-      let l5 : y5 < 2 ^ 64 = rw four (up-lt 2 moves2 splits2 16 refl m l3) in
-      let l6 : y6 < 2 ^ 64 = rw two (up-lt 1 moves1 splits1 32 refl m l5) in
+      let l3 : y3 < 2 ^ 64 = rw eight (ups-lt 4 8 moves4 level4 refl m h) in
+      let l5 : y5 < 2 ^ 64 = rw four (ups-lt 2 16 moves2 level2 refl m l3) in
+      let l6 : y6 < 2 ^ 64 = rw two (ups-lt 1 32 moves1 level1 refl m l5) in
       scatter-bits l l6
-      ∙ ap (scatterParts 1 64 m) two ∙ scatter-level 1 moves1 splits1 32 refl m l5
-      ∙ ap (scatterParts 2 32 m) four ∙ scatter-level 2 moves2 splits2 16 refl m l3
-      ∙ ap (scatterParts 4 16 m) eight ∙ scatter-level 4 moves4 splits4 8 refl m h
+      ∙ ap (scatterParts 1 64 m) two ∙ scatters 1 32 moves1 level1 refl m l5
+      ∙ ap (scatterParts 2 32 m) four ∙ scatters 2 16 moves2 level2 refl m l3
+      ∙ ap (scatterParts 4 16 m) eight ∙ scatters 4 8 moves4 level4 refl m h

@@ -253,62 +253,62 @@ scatter-same w m a b s h e =
     ∙ scatter-count w m b
 
 module _ (s : ℕ) (ps : Moves) (t : splits s ps ≡ true) where
-  raised : ℕ → ℕ → ℕ
-  raised m y = ups ps (s - rank m s) (y % 2 ^ (s + s))
+  partUp : ℕ → ℕ → ℕ
+  partUp m y = ups ps (s - rank m s) (y % 2 ^ (s + s))
 
   at-count : (m : ℕ) → (inside (s + s) ps (s - rank m s) ≡ true) × (every (2 ^ (s + s)) (splitsAt s ps (rank m s)) ≡ true)
   unfolding splits
   at-count m =
       both _ _ (every-at (suc s) (λ c. inside (s + s) ps (s - c) && every (2 ^ (s + s)) (splitsAt s ps c)) t (rank m s) (omega (arith, rank-le m s)))
 
-  raised-small : Small (s + s) raised
-  unfolding raised
-  raised-small m y = ups-lt (s + s) ps (s - rank m s) (y % 2 ^ (s + s)) (at-count m .0) (mod-lt y (pow-pos (s + s)))
+  partUp-small : Small (s + s) partUp
+  unfolding partUp
+  partUp-small m y = ups-lt (s + s) ps (s - rank m s) (y % 2 ^ (s + s)) (at-count m .0) (mod-lt y (pow-pos (s + s)))
 
-  raised-is : (m y : ℕ) → (raised m y % 2 ^ rank m s ≡ y % 2 ^ (s + s) % 2 ^ rank m s) × (raised m y / 2 ^ s ≡ y % 2 ^ (s + s) / 2 ^ rank m s % 2 ^ s)
-  unfolding raised splitsAt
-  raised-is m y =
+  partUp-is : (m y : ℕ) → (partUp m y % 2 ^ rank m s ≡ y % 2 ^ (s + s) % 2 ^ rank m s) × (partUp m y / 2 ^ s ≡ y % 2 ^ (s + s) / 2 ^ rank m s % 2 ^ s)
+  unfolding partUp splitsAt
+  partUp-is m y =
       let b = both _ _ (every-at (2 ^ (s + s)) (splitsAt s ps (rank m s)) (at-count m .1) (y % 2 ^ (s + s)) (mod-lt y (pow-pos (s + s)))) in
       (eqb-true _ _ (b .0), eqb-true _ _ (b .1))
 
   -- one part, with any word above it
-  scatter-part : (m y a : ℕ) → paired s (scatterOf s) m (a * 2 ^ (s + s) + raised m y) ≡ scatterOf (s + s) m y
+  scatter-part : (m y a : ℕ) → paired s (scatterOf s) m (a * 2 ^ (s + s) + partUp m y) ≡ scatterOf (s + s) m y
   scatter-part m y a =
       let c = rank m s in
       let r = rank-le m s in
-      let z = a * 2 ^ (s + s) + raised m y in
-      let is : z % 2 ^ (s + s) ≡ raised m y = low a (s + s) (raised-small m y) in
+      let z = a * 2 ^ (s + s) + partUp m y in
+      let is : z % 2 ^ (s + s) ≡ partUp m y = low a (s + s) (partUp-small m y) in
       let lower : scatterOf s m z ≡ scatterOf s m y =
       scatter-same s m z y c (omega arith)
-      (sym (mod-less z c (s + s) (omega arith)) ∙ ap (λ (n : ℕ). n % 2 ^ c) is ∙ raised-is m y .0 ∙ mod-less y c (s + s) (omega arith))
+      (sym (mod-less z c (s + s) (omega arith)) ∙ ap (λ (n : ℕ). n % 2 ^ c) is ∙ partUp-is m y .0 ∙ mod-less y c (s + s) (omega arith))
       in
       let e : (s + s - c) + c ≡ s + s = omega arith in
       let upper : scatterOf s (m / 2 ^ s) (z / 2 ^ s) ≡ scatterOf s (m / 2 ^ s) (y / 2 ^ c) =
       scatter-same s (m / 2 ^ s) (z / 2 ^ s) (y / 2 ^ c) s (rank-le (m / 2 ^ s) s)
-      (sym (field z s s) ∙ ap (λ (n : ℕ). n / 2 ^ s) is ∙ raised-is m y .1
+      (sym (field z s s) ∙ ap (λ (n : ℕ). n / 2 ^ s) is ∙ partUp-is m y .1
       ∙ ap (λ (n : ℕ). n % 2 ^ s) (rw e at (field y (s + s - c) c)) ∙ mod-less (y / 2 ^ c) s (s + s - c) (omega arith))
       in
       ap₂ (λ (a b : ℕ). a * 2 ^ s + b) upper lower ∙ sym (scatter-halves s m y s)
 
-  scatter-raised : (n m y : ℕ) → inParts (s + s) n (paired s (scatterOf s)) m (inParts (s + s) n raised m y) ≡ scatterParts (s + s) n m y
+  scatter-partUp : (n m y : ℕ) → inParts (s + s) n (paired s (scatterOf s)) m (inParts (s + s) n partUp m y) ≡ scatterParts (s + s) n m y
   unfolding inParts
-  scatter-raised zero m y = refl
-  scatter-raised (suc n) m y =
+  scatter-partUp zero m y = refl
+  scatter-partUp (suc n) m y =
       let k = s + s in
-      let a = inParts k n raised (m / 2 ^ k) (y / 2 ^ k) in
+      let a = inParts k n partUp (m / 2 ^ k) (y / 2 ^ k) in
       ap₂ (λ (u v : ℕ). u * 2 ^ k + v)
-      (ap (inParts k n (paired s (scatterOf s)) (m / 2 ^ k)) (high a k (raised-small m y)) ∙ scatter-raised n (m / 2 ^ k) (y / 2 ^ k))
+      (ap (inParts k n (paired s (scatterOf s)) (m / 2 ^ k)) (high a k (partUp-small m y)) ∙ scatter-partUp n (m / 2 ^ k) (y / 2 ^ k))
       (scatter-part m y a)
 
   module _ (n : ℕ) (e : (s + s) * n ≡ 64) (m : ℕ) {y : ℕ} (l : y < 2 ^ 64) where
-    up-raised : upAll (s + s) n ps (gapsOf s n m) y ≡ inParts (s + s) n raised m y
-    unfolding raised
-    up-raised =
+    up-partUp : upAll (s + s) n ps (gapsOf s n m) y ≡ inParts (s + s) n partUp m y
+    unfolding partUp
+    up-partUp =
         ap₂ (upAll (s + s) n ps) (parts-mask (s + s) (λ m. s - rank m s) n m 0 y) (sym (parts-second (s + s) n (subst (λ (j : ℕ). y < 2 ^ j) (sym e) l) m))
         ∙ ups-parts (s + s) n e ps (λ m x. mod-lt x (pow-pos (s + s))) (λ m x. gaps-small s m) (λ m x. at-count m .0) m y
 
     pub scatter-level : scatterParts s (n + n) m (upAll (s + s) n ps (gapsOf s n m) y) ≡ scatterParts (s + s) n m y
-    scatter-level = parts-pairs s (scatterOf s) n m _ ∙ ap (inParts (s + s) n (paired s (scatterOf s)) m) up-raised ∙ scatter-raised n m y
+    scatter-level = parts-pairs s (scatterOf s) n m _ ∙ ap (inParts (s + s) n (paired s (scatterOf s)) m) up-partUp ∙ scatter-partUp n m y
 
     pub up-lt : upAll (s + s) n ps (gapsOf s n m) y < 2 ^ 64
-    up-lt = omega (arith, up-raised, rw e at (parts-lt (s + s) raised-small n m y))
+    up-lt = omega (arith, up-partUp, rw e at (parts-lt (s + s) partUp-small n m y))

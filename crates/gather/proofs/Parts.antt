@@ -94,12 +94,13 @@ module _ (k : ℕ) where
       let e : k * suc n ≡ k * n + k = omega arith in
       ap (λ (a : ℕ). a * 2 ^ k + m % 2 ^ k) (parts-first n (shr-lt (k * n) k (rw e at h)) (x / 2 ^ k)) ∙ split m k
 
-  pub parts-second : (n : ℕ) {x : ℕ} → x < 2 ^ (k * n) → (m : ℕ) → inParts k n (λ m x. x % 2 ^ k) m x ≡ x
+  parts-flip : (f : ℕ → ℕ → ℕ) (n m x : ℕ) → inParts k n (λ m x. f x m) m x ≡ inParts k n f x m
   unfolding inParts
-  parts-second zero {x} h m = let e : k * 0 ≡ 0 = omega arith in sym (lt-one (rw e at h))
-  parts-second (suc n) {x} h m =
-      let e : k * suc n ≡ k * n + k = omega arith in
-      ap (λ (a : ℕ). a * 2 ^ k + x % 2 ^ k) (parts-second n (shr-lt (k * n) k (rw e at h)) (m / 2 ^ k)) ∙ split x k
+  parts-flip f zero m x = refl
+  parts-flip f (suc n) m x = ap (λ (a : ℕ). a * 2 ^ k + f x m) (parts-flip f n (m / 2 ^ k) (x / 2 ^ k))
+
+  pub parts-second : (n : ℕ) {x : ℕ} → x < 2 ^ (k * n) → (m : ℕ) → inParts k n (λ m x. x % 2 ^ k) m x ≡ x
+  parts-second n {x} h m = parts-flip (λ m x. m % 2 ^ k) n m x ∙ parts-first n h m
 
   -- what is left of the word from part j up
   pub parts-drop : {f : ℕ → ℕ → ℕ} → Small k f → (j n m x : ℕ) → inParts k (j + n) f m x / 2 ^ (k * j) ≡ inParts k n f (m / 2 ^ (k * j)) (x / 2 ^ (k * j))
