@@ -6,14 +6,17 @@ use Prim.Native.Nat.{ℕ, zero, suc, _+_, _-_, _^_, _<_, _≤_}
 use native.Mathlib.Omega.{arith}
 use native.Mathlib.Nat.{not-suc-le-zero}
 use native.Mathlib.Numerals.{add-one}
-use lib.ListN.{length, getD, take, drop, replicate, length-replicate, List·getD-append, getD-replicate}
+use lib.ListN.{length, getD, take, drop, replicate, length-replicate, List·getD-append, getD-replicate, drop-of-length-le}
+use lib.Pow.{pow-mono}
 use lib.Seq.{take-suc, drop-cons, getD-append-add, getD-take}
-use Rattle.network.specs.Stage.{falling}
-use Rattle.network.specs.Word.{swapsOf, swapsAt, exchangeOf, exchangesOf, allPass, byIndex}
-use Rattle.network.proofs.Travel.{length-falling}
+use Rattle.network.specs.Stage.{stage, travel, falling}
+use Rattle.network.specs.Word.{swapsOf, swapsAt, exchangeOf, exchangesOf, allPass, byIndex, preparedOf, distances, travelOf}
+use Rattle.network.proofs.Travel.{length-falling, reverse-falling, length-distances, distances-fit, travel-wider}
+use Rattle.network.proofs.PairsExchanged.{exchange-stage}
+use Rattle.network.proofs.Table.{pass-at}
 use Rattle.network.proofs.TableSteps.{falling-at}
-use Rattle.network.proofs.Filling.{reversed-at}
-use Rattle.network.proofs.Six.{used}
+use Rattle.network.proofs.Filling.{reverse-at, reversed-at}
+use Rattle.network.proofs.Six.{used, length-index}
 
 -- the swaps of a stage of the table
 
@@ -80,3 +83,56 @@ module _ (b : Bool) (L : ℕ) (hL : L ≤ 6) (cs : List ℕ) (hc : length cs ≡
           let q : 5 - i ≡ L - 1 - (i - (6 - L)) = omega arith in
           ap (λ (j : ℕ). getD cs j 0) q ∙ reversed-at cs L (omega arith) (i - (6 - L)) (omega arith)
       by false = sym (getD-take L cs (i - (6 - L)) 0 (omega arith))
+
+  -- and their swaps
+
+  prepared-at : (i : ℕ) → i < 6 → swapsOf (2 ^ (5 - i)) (getD (byIndex b L cs) i 0) ≡ getD (preparedOf b L cs) i 0
+  prepared-at i h = swaps-here (byIndex b L cs) i h (length-index L hL cs hc b)
+
+  pub prepared-none : (i : ℕ) → i < 6 - L → getD (preparedOf b L cs) i 0 ≡ 0
+  prepared-none i h =
+      let s : i < 6 = omega arith in
+      sym (prepared-at i s) ∙ ap (swapsOf (2 ^ (5 - i))) (sym (index-none i h)) ∙ pass-at i s
+
+  pub prepared-here : (i : ℕ) {v s : ℕ} → 6 - L ≤ i → i < 6 → v ≡ cond b (5 - i) (i - (6 - L)) → s ≡ swapsOf (2 ^ (5 - i)) (getD cs v 0)
+      → s ≡ getD (preparedOf b L cs) i 0
+  prepared-here i lo hi e q = q ∙ ap (swapsOf (2 ^ (5 - i))) (index-here i lo hi e) ∙ prepared-at i hi
+
+  pub length-prepared : length (preparedOf b L cs) ≡ 6
+  length-prepared = length-six (byIndex b L cs) (length-index L hL cs hc b)
+
+-- the distance of a stage by its number in the direction of travel
+pub distance-of : (b : Bool) (L at : ℕ) → at < L → L ≤ 6 → {v : ℕ} → v ≡ cond b (5 - at) (6 - L + at) → 2 ^ (5 - v) ≡ getD (distances b L) at 0
+distance-of true L at h l e =
+    let n = length-falling L in
+    let q : 5 - (5 - at) ≡ L - 1 - (L - 1 - at) = omega arith in
+    ap (λ (i : ℕ). 2 ^ (5 - i)) e
+    ∙ ap (λ (i : ℕ). 2 ^ i) q
+    ∙ sym (ap (λ (ds : List ℕ). getD ds at 0) (sym (reverse-falling L))
+    ∙ reverse-at (falling L) at (omega (arith, n))
+    ∙ ap (λ (i : ℕ). getD (falling L) (i - 1 - at) 0) n
+    ∙ falling-at L (L - 1 - at) (omega arith))
+distance-of false L at h l e =
+    let q : 5 - (6 - L + at) ≡ L - 1 - at = omega arith in
+    ap (λ (i : ℕ). 2 ^ (5 - i)) e ∙ ap (λ (i : ℕ). 2 ^ i) q ∙ sym (falling-at L at h)
+
+-- one stage more
+
+module _ (b : Bool) (L : ℕ) (cs : List ℕ) where
+  abbrev pub left : ℕ → ℕ → ℕ
+  left at x = travel 64 (drop at (distances b L)) (drop at cs) x
+
+  module _ (at x : ℕ) (h : at < L) (l : at < length cs) (hx : x < 2 ^ 64) where
+    pub send-turn : {d s y : ℕ} → 0 < d → d ≡ getD (distances b L) at 0 → s ≡ swapsOf d (getD cs at 0) → y ≡ exchangeOf d s x → left (at + 1) y ≡ left at x
+    unfolding travel
+    send-turn {d} pos e q r =
+        let y = r ∙ ap (λ (n : ℕ). exchangeOf d n x) q ∙ exchange-stage d (getD cs at 0) x pos hx ∙ ap (λ (n : ℕ). stage 64 n (getD cs at 0) x) e in
+        ap (left (at + 1)) y
+        ∙ rw (add-one at, drop-cons (distances b L) at 0 (omega (arith, length-distances b L)), drop-cons cs at 0 l)
+
+  pub send-end : {at x y : ℕ} → L ≤ 6 → at ≡ L → y < 2 ^ 2 ^ L → left at x ≡ left 0 y → x ≡ travelOf b L cs y
+  unfolding travel travelOf
+  send-end {at} {x} {y} hL e h q =
+      let none : drop L (distances b L) ≡ [] = drop-of-length-le (distances b L) {i = L} (omega (arith, length-distances b L)) in
+      let here : left at x ≡ x = ap (λ (n : ℕ). left n x) e ∙ ap (λ (ds : List ℕ). travel 64 ds (drop L cs) x) none in
+      sym here ∙ q ∙ travel-wider (pow-mono hL) (distances b L) cs (distances-fit b L (omega arith)) h
