@@ -203,7 +203,7 @@ fn is_used_only(log: usize, stages: [u32; 6]) -> bool
     unused == 0
 }
 
-// internal: an accepted width and its logarithm. The lowest refusal of a call on a network.
+// internal: an accepted width and its logarithm. The lowest refusal of a call on a network at that width.
 fn refusal_at(width: u32, log: usize, stages: [u32; 6], word: u64) -> u8
     requires { ⌜ (0 < log) × (log ≤ 6) × (log ≡ logOf width) ⌝ }
     ensures { λ r. ⌜ r ≡ networkRefusal width stages word ⌝ }
@@ -217,8 +217,10 @@ fn refusal_at(width: u32, log: usize, stages: [u32; 6], word: u64) -> u8
     bits::CARRIED_OUT
 }
 
-// The lowest refusal of a call on a network; 0 if it is carried out. By each width, so that its tests are those of a known width.
+// internal: below width 64. The lowest refusal of a call on a network; 0 if it is carried out. By each width, so that the compiler knows
+// which bits to test.
 fn network_refusal(width: u32, stages: [u32; 6], word: u64) -> u8
+    requires { ⌜ width < 64 ⌝ }
     ensures { λ r. ⌜ r ≡ networkRefusal width stages word ⌝ }
 {
     if width == 8 {
@@ -229,9 +231,6 @@ fn network_refusal(width: u32, stages: [u32; 6], word: u64) -> u8
     }
     if width == 32 {
         return refusal_at(32, 5, stages, word);
-    }
-    if width == 64 {
-        return refusal_at(64, 6, stages, word);
     }
     bits::WIDTH
 }
@@ -264,7 +263,7 @@ fn prepare_answer(refusal: u8, swaps: [u64; 6]) -> Prepared
     Prepared { refusal, swaps }
 }
 
-// internal: below width 64. By each width, so that the stages in use are known.
+// internal: below width 64. By each width, so that the compiler knows the stages in use.
 fn butterfly_below(width: u32, controls: Controls, word: u64) -> Carried
     requires { ⌜ width < 64 ⌝ }
     ensures { λ r. ⌜ r ≡ networkAnswer butterflyOf width controls word ⌝ }
@@ -292,12 +291,12 @@ pub fn butterfly(width: u32, controls: Controls, word: u64) -> Carried
     }
     let stages = controls.stages;
     if width == 64 {
-        return answer(0, butterfly_64(stages, word));
+        return answer(0, butterfly_prepared(prepare(stages), word));
     }
     answer(bits::WIDTH, 0)
 }
 
-// internal: below width 64. By each width, so that the stages in use are known.
+// internal: below width 64. By each width, as `butterfly_below`.
 fn inverse_below(width: u32, controls: Controls, word: u64) -> Carried
     requires { ⌜ width < 64 ⌝ }
     ensures { λ r. ⌜ r ≡ networkAnswer inverseOf width controls word ⌝ }
@@ -325,7 +324,7 @@ pub fn inverse(width: u32, controls: Controls, word: u64) -> Carried
     }
     let stages = controls.stages;
     if width == 64 {
-        return answer(0, inverse_64(stages, word));
+        return answer(0, inverse_prepared(prepare(reversed(6, stages)), word));
     }
     answer(bits::WIDTH, 0)
 }
@@ -363,7 +362,7 @@ pub fn prepare_butterfly(width: u32, controls: Controls) -> Prepared
     prepare_answer(bits::WIDTH, [0u64; 6])
 }
 
-// internal: below width 64. By each width, as `inverse_below`.
+// internal: below width 64. By each width, as `butterfly_below`.
 fn prepare_inverse_below(width: u32, controls: Controls) -> Prepared
     requires { ⌜ width < 64 ⌝ }
     ensures { λ r. ⌜ r ≡ prepareAnswer true width controls ⌝ }

