@@ -1,4 +1,4 @@
--- What the loops over the six stages do: the swaps of each stage, one exchange more, the stage at an index of the table. Assumes nothing.
+-- What the loops over the six stages, and over those in use, do: the swaps of each stage, one exchange more, the stage at an index of the table. Assumes nothing.
 use mathlib.Core.Path.{_≡_, refl, sym, _∙_, ap}
 use mathlib.Core.Bool.{Bool, true, false, cond}
 use mathlib.Core.List.{List, [], _∷_, reverse, reverse-append}

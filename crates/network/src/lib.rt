@@ -291,7 +291,7 @@ pub fn butterfly(width: u32, controls: Controls, word: u64) -> Carried
     }
     let stages = controls.stages;
     if width == 64 {
-        return answer(0, butterfly_prepared(prepare(stages), word));
+        return answer(0, butterfly_64(stages, word));
     }
     answer(bits::WIDTH, 0)
 }
@@ -324,7 +324,7 @@ pub fn inverse(width: u32, controls: Controls, word: u64) -> Carried
     }
     let stages = controls.stages;
     if width == 64 {
-        return answer(0, inverse_prepared(prepare(reversed(6, stages)), word));
+        return answer(0, inverse_64(stages, word));
     }
     answer(bits::WIDTH, 0)
 }
