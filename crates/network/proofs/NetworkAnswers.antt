@@ -117,13 +117,24 @@ control-lt L hL cs n e i h =
 pub no-log : (w : ℕ) → (w ≡ 8 → ⊥) → (w ≡ 16 → ⊥) → (w ≡ 32 → ⊥) → (w ≡ 64 → ⊥) → logOf w ≡ 0
 no-log w a b c d = rw (ne-eqb w 8 a, ne-eqb w 16 b, ne-eqb w 32 c, ne-eqb w 64 d)
 
-last-log : (w : ℕ) → accepted w ≡ true → w < 64 → (w ≡ 8 → ⊥) → (w ≡ 16 → ⊥) → 5 ≡ logOf w
-last-log w h l a b = by (eqb w 32) refl
-  where
-    by : (t : Bool) → eqb w 32 ≡ t → 5 ≡ logOf w
-    by true q = rw (ne-eqb w 8 a, ne-eqb w 16 b, q)
-    by false q =
-        absurd (true≢false (sym h ∙ not-width w (rw (ne-eqb w 8 a, ne-eqb w 16 b, q, ne-eqb w 64 (λ e. omega arith)))))
+-- neither 8 nor 16
+module _ (w : ℕ) (h : accepted w ≡ true) (a : w ≡ 8 → ⊥) (b : w ≡ 16 → ⊥) where
+  log-else : {t : Bool} → eqb w 32 ≡ t → logOf w ≡ cond t 5 (cond (eqb w 64) 6 0)
+  log-else q = rw (ne-eqb w 8 a, ne-eqb w 16 b, q)
+
+  pub is-32 : w < 64 → 5 ≡ logOf w
+  is-32 l = by (eqb w 32) refl
+    where
+      by : (t : Bool) → eqb w 32 ≡ t → 5 ≡ logOf w
+      by true q = sym (log-else q)
+      by false q = absurd (true≢false (sym h ∙ not-width w (log-else q ∙ rw (ne-eqb w 64 (λ e. omega arith)))))
+
+  pub is-64 : (w ≡ 32 → ⊥) → 6 ≡ logOf w
+  is-64 n = by (eqb w 64) refl
+    where
+      by : (t : Bool) → eqb w 64 ≡ t → 6 ≡ logOf w
+      by true q = sym (log-else (ne-eqb w 32 n) ∙ rw q)
+      by false q = absurd (true≢false (sym h ∙ not-width w (log-else (ne-eqb w 32 n) ∙ rw q)))
 
 -- a call on a network
 
@@ -152,9 +163,8 @@ module _ (w : ℕ) (cs : List ℕ) (x : ℕ) where
       let l = log-width w (i .0) in
       (omega (arith, l .2), rw q (rw (l .0) at (i .1)), rw q (i .2))
 
-  -- below 64 and neither 8 nor 16
-  pub is-32 : {n : ℕ} → n ≡ networkRefusal w cs x → n ≡ 0 → w < 64 → (w ≡ 8 → ⊥) → (w ≡ 16 → ⊥) → 5 ≡ logOf w
-  is-32 e z = last-log w (network-within (sym e ∙ z) .0)
+  pub width-accepted : {n : ℕ} → n ≡ networkRefusal w cs x → n ≡ 0 → accepted w ≡ true
+  width-accepted e z = network-within (sym e ∙ z) .0
 
   pub width-refused : logOf w ≡ 0 → 1 ≡ networkRefusal w cs x
   width-refused e = sym (network-refusal-by (not-width w e) refl refl)
@@ -198,18 +208,15 @@ prepare-lowest b w k =
     answers-lowest (networkConditions w (k .stages) 0) (omega arith) (λ (a : Prepared). a .refusal) (λ n. record { refusal = n; swaps = replicate 6 0 })
     (record { refusal = 0; swaps = preparedOf b (logOf w) (k .stages) }) refl (λ n. refl)
 
-pub prepare-limits : (w : ℕ) (cs : List ℕ) {n l : ℕ} → n ≡ networkRefusal w cs 0 → n ≡ 0 → l ≡ logOf w → (l ≤ 6) × (controlsFit l 0 cs ≡ true)
-prepare-limits w cs e z q = let i = network-limits w cs 0 e z q in (i .0, i .2)
-
 module _ (b : Bool) (w : ℕ) (k : Controls) {n : ℕ} (e : n ≡ networkRefusal w (k .stages) 0) where
   pub prepare-refused : (n ≡ 0 → ⊥) → _≡_ {A = Prepared} (record { refusal = n; swaps = replicate 6 0 }) (prepareAnswer b w k)
   unfolding prepareAnswer
   prepare-refused z = rw (← e, ne-eqb n 0 z)
 
-  pub prepare-done : n ≡ 0 → (l : ℕ) {ws : List ℕ} → l ≡ logOf w → ws ≡ preparedOf b l (k .stages)
+  pub prepare-done : n ≡ 0 → {ws : List ℕ} → ws ≡ preparedOf b (logOf w) (k .stages)
       → _≡_ {A = Prepared} (record { refusal = 0; swaps = ws }) (prepareAnswer b w k)
   unfolding prepareAnswer
-  prepare-done z l q y = rw (← e, eq-eqb n 0 z, y, q)
+  prepare-done z y = rw (← e, eq-eqb n 0 z, y)
 
 -- a call of the decoder
 

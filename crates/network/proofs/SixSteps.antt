@@ -10,13 +10,12 @@ use lib.ListN.{length, getD, take, drop, replicate, length-replicate, List·getD
 use lib.Pow.{pow-mono}
 use lib.Seq.{take-suc, drop-cons, getD-append-add, getD-take}
 use Rattle.network.specs.Stage.{stage, travel, falling}
-use Rattle.network.specs.Word.{swapsOf, swapsAt, exchangeOf, exchangesOf, allPass, byIndex, preparedOf, distances, travelOf}
+use Rattle.network.specs.Word.{swapsOf, swapsAt, exchangeOf, exchangesOf, allPass, byIndex, distances, travelOf}
 use Rattle.network.proofs.Travel.{length-falling, reverse-falling, length-distances, distances-fit, travel-wider}
 use Rattle.network.proofs.PairsExchanged.{exchange-stage}
-use Rattle.network.proofs.Table.{pass-at}
 use Rattle.network.proofs.TableSteps.{falling-at}
 use Rattle.network.proofs.Filling.{reverse-at, reversed-at}
-use Rattle.network.proofs.Six.{used, length-index}
+use Rattle.network.proofs.Six.{used}
 
 -- the swaps of a stage of the table
 
@@ -83,23 +82,6 @@ module _ (b : Bool) (L : ℕ) (hL : L ≤ 6) (cs : List ℕ) (hc : length cs ≡
           let q : 5 - i ≡ L - 1 - (i - (6 - L)) = omega arith in
           ap (λ (j : ℕ). getD cs j 0) q ∙ reversed-at cs L (omega arith) (i - (6 - L)) (omega arith)
       by false = sym (getD-take L cs (i - (6 - L)) 0 (omega arith))
-
-  -- and their swaps
-
-  prepared-at : (i : ℕ) → i < 6 → swapsOf (2 ^ (5 - i)) (getD (byIndex b L cs) i 0) ≡ getD (preparedOf b L cs) i 0
-  prepared-at i h = swaps-here (byIndex b L cs) i h (length-index L hL cs hc b)
-
-  pub prepared-none : (i : ℕ) → i < 6 - L → getD (preparedOf b L cs) i 0 ≡ 0
-  prepared-none i h =
-      let s : i < 6 = omega arith in
-      sym (prepared-at i s) ∙ ap (swapsOf (2 ^ (5 - i))) (sym (index-none i h)) ∙ pass-at i s
-
-  pub prepared-here : (i : ℕ) {v s : ℕ} → 6 - L ≤ i → i < 6 → v ≡ cond b (5 - i) (i - (6 - L)) → s ≡ swapsOf (2 ^ (5 - i)) (getD cs v 0)
-      → s ≡ getD (preparedOf b L cs) i 0
-  prepared-here i lo hi e q = q ∙ ap (swapsOf (2 ^ (5 - i))) (index-here i lo hi e) ∙ prepared-at i hi
-
-  pub length-prepared : length (preparedOf b L cs) ≡ 6
-  length-prepared = length-six (byIndex b L cs) (length-index L hL cs hc b)
 
 -- the distance of a stage by its number in the direction of travel
 pub distance-of : (b : Bool) (L at : ℕ) → at < L → L ≤ 6 → {v : ℕ} → v ≡ cond b (5 - at) (6 - L + at) → 2 ^ (5 - v) ≡ getD (distances b L) at 0

@@ -1,13 +1,12 @@
 -- The rule of the constant table of distances and pair masks: one computed test over the whole table, read at each entry. Assumes nothing.
-use mathlib.Core.Path.{_≡_, refl, sym, _∙_, ap}
+use mathlib.Core.Path.{_≡_, refl, _∙_, ap}
 use mathlib.Core.List.{List, [], _∷_}
 use Prim.Native.Nat.{ℕ, zero, suc, _+_, _-_, _^_, _<_}
 use native.Mathlib.Omega.{arith}
 use native.Mathlib.Nat.{not-suc-le-zero, zero-add}
-use lib.ListN.{getD, replicate, getD-replicate}
-use Rattle.bits.specs.Bit.{bit, ofBits}
-use Rattle.network.specs.Stage.{switchOf}
-use Rattle.network.specs.Word.{atLower, pairs, spreadOf, swapsOf, allPass}
+use lib.ListN.{getD}
+use Rattle.bits.specs.Bit.{ofBits}
+use Rattle.network.specs.Word.{atLower, pairs}
 
 -- f at n places from i up
 tabulate : (ℕ → ℕ) → ℕ → ℕ → List ℕ
@@ -45,17 +44,9 @@ pairs-are : pairTable ≡ tabulate (λ k. pairs (2 ^ (5 - k))) 0 6
 unfolding tabulate atLower ofBits
 pairs-are = refl
 
-passes-are : replicate 6 0 ≡ tabulate (λ k. swapsOf (2 ^ (5 - k)) allPass) 0 6
-unfolding tabulate swapsOf spreadOf atLower ofBits switchOf bit
-passes-are = refl
-
 module _ (k : ℕ) (h : k < 6) where
   pub distance-at : getD distanceTable k 0 ≡ 2 ^ (5 - k)
   distance-at = entries (λ i. 2 ^ (5 - i)) 6 distances-are k h
 
   pub pair-at : getD pairTable k 0 ≡ pairs (2 ^ (5 - k))
   pair-at = entries (λ i. pairs (2 ^ (5 - i))) 6 pairs-are k h
-
-  -- a stage that passes every bit swaps nothing
-  pub pass-at : swapsOf (2 ^ (5 - k)) allPass ≡ 0
-  pass-at = sym (entries (λ i. swapsOf (2 ^ (5 - i)) allPass) 6 passes-are k h) ∙ getD-replicate 6 k 0 0 h

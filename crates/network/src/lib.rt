@@ -6,9 +6,9 @@ ghost use mathlib.Core.List.{reverse};
 ghost use lib.Dec.{eqb};
 ghost use lib.ListN.{getD, take};
 ghost use Rattle.bits.specs.Bit.{ofBits};
-ghost use Rattle.bits.specs.Refusal.{logOf};
+ghost use Rattle.bits.specs.Refusal.{logOf, accepted};
 ghost use Rattle.network.specs.Stage.{falling, rising, butterflyOf, inverseOf};
-ghost use Rattle.network.specs.Word.{spreadOf, swapsOf, swapsAt, exchangeOf, exchangesOf, preparedOf, distances, travelOf};
+ghost use Rattle.network.specs.Word.{spreadOf, swapsOf, swapsAt, exchangeOf, exchangesOf, byIndex, distances, travelOf};
 ghost use Rattle.network.specs.Decoder.{turned, controlAt, decodeOf, decodeInverseOf};
 ghost use Rattle.network.specs.Calls.{usedBits, controlsFit, networkRefusal, networkAnswer, prepareAnswer, six, decodeRefusal, decodeAnswer};
 
@@ -89,7 +89,7 @@ fn exchange(index: usize, swaps: u64, word: u64) -> u64
 // internal: a stage in use. Its number in the direction of travel.
 fn stage_at(rising: bool, log: usize, index: usize) -> usize
     requires { ⌜ (log ≤ 6) × (6 - log ≤ index) × (index < 6) ⌝ }
-    ensures { λ r. ⌜ (r < log) × (r ≡ cond rising (5 - index) (index - (6 - log))) ⌝ }
+    ensures { λ r. ⌜ (r < 6) × (r ≡ cond rising (5 - index) (index - (6 - log))) ⌝ }
 {
     if rising {
         return 5 - index;
@@ -97,19 +97,36 @@ fn stage_at(rising: bool, log: usize, index: usize) -> usize
     index - (6 - log)
 }
 
-// internal: a logarithm of at most 6, and controls that fit it. The swaps of the inverse (rising) or of the butterfly; a stage that is not
-// in use swaps nothing.
-fn prepare_used(rising: bool, log: usize, stages: [u32; 6]) -> [u64; 6]
-    requires { ⌜ (log ≤ 6) × (controlsFit log 0 stages ≡ true) ⌝ }
-    ensures { λ r. ⌜ r ≡ preparedOf rising log stages ⌝ }
+// internal: a logarithm of at most 6. All six stages of the inverse (rising) or of the butterfly by their index in the table; one that is
+// not in use passes every bit.
+fn by_index(rising: bool, log: usize, stages: [u32; 6]) -> [u32; 6]
+    requires { ⌜ log ≤ 6 ⌝ }
+    ensures { λ r. ⌜ r ≡ byIndex rising log stages ⌝ }
 {
-    let mut words = [0u64; 6];
+    let mut placed = [0xFFFFFFFFu32; 6];
     let mut index = 6 - log;
     while index < 6 {
-        words[index] = swaps(6 - log, index, stages[stage_at(rising, log, index)]);
+        placed[index] = stages[stage_at(rising, log, index)];
         index += 1;
     }
-    words
+    placed
+}
+
+// internal: an accepted width. The same by each width, so that the compiler knows the stages in use.
+fn in_table(rising: bool, width: u32, stages: [u32; 6]) -> [u32; 6]
+    requires { ⌜ accepted width ≡ true ⌝ }
+    ensures { λ r. ⌜ r ≡ byIndex rising (logOf width) stages ⌝ }
+{
+    if width == 8 {
+        return by_index(rising, 3, stages);
+    }
+    if width == 16 {
+        return by_index(rising, 4, stages);
+    }
+    if width == 32 {
+        return by_index(rising, 5, stages);
+    }
+    by_index(rising, 6, stages)
 }
 
 // internal: the swaps of six stages by their index in the table. They serve any number of words.
@@ -329,70 +346,41 @@ pub fn inverse(width: u32, controls: Controls, word: u64) -> Carried
     answer(bits::WIDTH, 0)
 }
 
-// internal: below width 64. By each width, as `butterfly_below`.
-fn prepare_butterfly_below(width: u32, controls: Controls) -> Prepared
-    requires { ⌜ width < 64 ⌝ }
-    ensures { λ r. ⌜ r ≡ prepareAnswer false width controls ⌝ }
+// The lowest refusal of a call that prepares a network; 0 if it is carried out.
+fn prepare_refusal(width: u32, stages: [u32; 6]) -> u8
+    ensures { λ r. ⌜ r ≡ networkRefusal width stages 0 ⌝ }
 {
-    let stages = controls.stages;
-    let refusal = network_refusal(width, stages, 0);
-    if refusal != 0 {
-        return prepare_answer(refusal, [0u64; 6]);
+    if width < 64 {
+        return network_refusal(width, stages, 0);
     }
-    if width == 8 {
-        return prepare_answer(0, prepare_used(false, 3, stages));
+    if width == 64 {
+        return bits::CARRIED_OUT;
     }
-    if width == 16 {
-        return prepare_answer(0, prepare_used(false, 4, stages));
-    }
-    prepare_answer(0, prepare_used(false, 5, stages))
+    bits::WIDTH
 }
 
 // The butterfly, prepared: `butterfly_prepared` then sends any number of words through it.
 pub fn prepare_butterfly(width: u32, controls: Controls) -> Prepared
     ensures { λ r. ⌜ r ≡ prepareAnswer false width controls ⌝ }
 {
-    if width < 64 {
-        return prepare_butterfly_below(width, controls);
-    }
     let stages = controls.stages;
-    if width == 64 {
-        return prepare_answer(0, prepare(stages));
-    }
-    prepare_answer(bits::WIDTH, [0u64; 6])
-}
-
-// internal: below width 64. By each width, as `butterfly_below`.
-fn prepare_inverse_below(width: u32, controls: Controls) -> Prepared
-    requires { ⌜ width < 64 ⌝ }
-    ensures { λ r. ⌜ r ≡ prepareAnswer true width controls ⌝ }
-{
-    let stages = controls.stages;
-    let refusal = network_refusal(width, stages, 0);
+    let refusal = prepare_refusal(width, stages);
     if refusal != 0 {
         return prepare_answer(refusal, [0u64; 6]);
     }
-    if width == 8 {
-        return prepare_answer(0, prepare_used(true, 3, stages));
-    }
-    if width == 16 {
-        return prepare_answer(0, prepare_used(true, 4, stages));
-    }
-    prepare_answer(0, prepare_used(true, 5, stages))
+    prepare_answer(0, prepare(in_table(false, width, stages)))
 }
 
 // The inverse, prepared: `inverse_prepared` then sends any number of words through it.
 pub fn prepare_inverse(width: u32, controls: Controls) -> Prepared
     ensures { λ r. ⌜ r ≡ prepareAnswer true width controls ⌝ }
 {
-    if width < 64 {
-        return prepare_inverse_below(width, controls);
-    }
     let stages = controls.stages;
-    if width == 64 {
-        return prepare_answer(0, prepare(reversed(6, stages)));
+    let refusal = prepare_refusal(width, stages);
+    if refusal != 0 {
+        return prepare_answer(refusal, [0u64; 6]);
     }
-    prepare_answer(bits::WIDTH, [0u64; 6])
+    prepare_answer(0, prepare(in_table(true, width, stages)))
 }
 
 // internal: a distance of 1 to 32. As many zeros turned left `count` steps: as many ones come in at the right and go out at the left.

@@ -7,7 +7,7 @@ use Rattle.network.specs.declared.Carried.{Carried}
 use Rattle.network.specs.Stage.{inverseOf}
 use Rattle.network.specs.Word.{travelOf}
 use Rattle.network.specs.Calls.{controlsFit, networkAnswer}
-use Rattle.network.proofs.NetworkAnswers.{network-limits, network-refused, network-done, is-32}
+use Rattle.network.proofs.NetworkAnswers.{network-limits, network-refused, network-done, width-accepted, is-32}
 use borrow.Author.Needs.{needs}
 use Rattle.network.proofs.inverse_below.Statement.{statement}
 use Rattle.network.proofs.inverse_below.Tie as tie
@@ -44,7 +44,8 @@ last : (c : tie.Else3) → 5 ≡ logOf (c .before .before .before .before .befor
 last c =
     let e = c .before .before in
     let a = e .before .before .before .args in
-    is-32 (a .width) (a .controls .stages) (a .word) (e .before .network-refusal .ensures) (e .if1 .left) (search needs) (c .before .if2 .left) (c .if3 .left)
+    let h = width-accepted (a .width) (a .controls .stages) (a .word) (e .before .network-refusal .ensures) (e .if1 .left) in
+    is-32 (a .width) h (c .before .if2 .left) (c .if3 .left) (search needs)
 
 send-requires : tie.Need-send-requires
 send-requires c κs = limits (c .before) (rw (c .if2 .taken))
