@@ -22,6 +22,19 @@ fill-turn a cs i {out} {v} h l e f =
     ∙ set-at (take i cs) a (replicate (6 - suc i) a) v i (length-take-le i cs (omega arith))
     ∙ rw (add-one i, take-suc cs i 0, ← f, append-assoc)
 
+set-same : (a n i : ℕ) → set (replicate n a) i a ≡ replicate n a
+set-same a zero i = refl
+set-same a (suc n) zero = refl
+set-same a (suc n) (suc i) = ap (λ (l : List ℕ). a ∷ l) (set-same a n i)
+
+-- where the list has a itself
+pub fill-start : (a : ℕ) (cs : List ℕ) (i : ℕ) → i ≤ 6 → length cs ≡ 6 → ((j : ℕ) → j < i → getD cs j 0 ≡ a) → replicate 6 a ≡ filled a i cs
+fill-start a cs zero h l f = refl
+fill-start a cs (suc i) h l f =
+    let n : i + 1 ≡ suc i = omega arith in
+    let before = fill-start a cs i (omega arith) l (λ j m. f j (omega arith)) in
+    sym (set-same a 6 i) ∙ fill-turn a cs i (omega arith) (omega arith) before (sym (f i (omega arith))) ∙ ap (λ (k : ℕ). filled a k cs) n
+
 pub fill-end : (cs : List ℕ) (i : ℕ) → i ≡ length cs → filled 0 i cs ≡ six cs
 fill-end cs i e = rw (e, take-length)
 

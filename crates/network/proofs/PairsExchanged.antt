@@ -2,12 +2,12 @@
 use mathlib.Core.Path.{_≡_, refl, sym, _∙_, ap}
 use mathlib.Core.Logic.{_⊎_, inl, inr}
 use mathlib.Core.Bool.{Bool, cond}
-use Prim.Native.Nat.{ℕ, zero, suc, _+_, _-_, _*_, _/_, _%_, _^_, _<_, min, max}
+use Prim.Native.Nat.{ℕ, zero, suc, _+_, _-_, _*_, _/_, _%_, _^_, _<_, _≤_, min, max}
 use native.Mathlib.Omega.{arith}
 use native.Mathlib.Nat.{mod-lt}
 use lib.Dec.{eqb}
 use lib.Bits.{bitAnd, bitOr, bitXor, xor-lt, and-le-l, and-le-r}
-use lib.Pow.{pow-pos}
+use lib.Pow.{pow-pos, pow-mono}
 use borrow.Author.Tests.{eq-eqb, ne-eqb}
 use Rattle.bits.specs.Bit.{bit}
 use Rattle.bits.proofs.Word.{digit, bit-lt, bit-cases, bit-mod-two, bit-and, bit-or, bit-xor, bit-not, bit-shr, bit-shl-below, bit-shl-from, bit-above, bit-ofBits, ofBits-lt, ext}
@@ -156,15 +156,19 @@ spread-lt : (d c : ℕ) → spreadOf d c < 2 ^ 64
 unfolding spreadOf
 spread-lt d c = lower-lt d (λ p. bit c (switchOf d p))
 
--- at distance 32 the control bits stand at its lower places already
-pub spread-none : {c : ℕ} → c < 2 ^ 32 → spreadOf 32 c ≡ c
-spread-none {c} h = ext 64 (spread-lt 32 c) (omega arith) (on-places {d = 32} (omega arith) _ at)
+-- no more control bits than the distance stand at its lower places already
+pub spread-none : {d c : ℕ} → 0 < d → d ≤ 32 → c < 2 ^ d → spreadOf d c ≡ c
+spread-none {d} {c} pos wide h = ext 64 (spread-lt d c) (omega (arith, pow-mono wide)) (on-places {d = d} pos _ at)
   where
-    at : (J e t : ℕ) → e < 2 → t < 32 → placeAt 32 J e t < 64 → bit (spreadOf 32 c) (placeAt 32 J e t) ≡ bit c (placeAt 32 J e t)
-    at zero zero t he ht l = bit-spread 32 c 0 t ht l
-    at zero (suc zero) t he ht l = bit-spread-upper 32 c 0 t ht l ∙ sym (bit-above {w = 32} (placeAt 32 0 1 t) h (omega arith))
-    at zero (suc (suc e)) t he ht l = absurd (omega arith)
-    at (suc J) e t he ht l = absurd (omega arith)
+    above : (p : ℕ) → d ≤ p → 0 ≡ bit c p
+    above p l = sym (bit-above {w = d} p h l)
+
+    at : (J e t : ℕ) → e < 2 → t < d → placeAt d J e t < 64 → bit (spreadOf d c) (placeAt d J e t) ≡ bit c (placeAt d J e t)
+    at zero zero t he ht l = let p : 0 * d + t ≡ placeAt d 0 0 t = omega arith in bit-spread d c 0 t ht l ∙ ap (bit c) p
+    at (suc J) zero t he ht l =
+        bit-spread d c (suc J) t ht l ∙ sym (above (suc J * d + t) (omega arith)) ∙ above (placeAt d (suc J) 0 t) (omega arith)
+    at J (suc zero) t he ht l = bit-spread-upper d c J t ht l ∙ above (placeAt d J 1 t) (omega arith)
+    at J (suc (suc e)) t he ht l = absurd (omega arith)
 
 module _ (d c : ℕ) where
   abbrev wider : ℕ

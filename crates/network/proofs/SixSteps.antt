@@ -1,4 +1,4 @@
--- What the loops over the six stages do: the swaps of each stage, one exchange more, the stage at an index of the table. Assumes nothing.
+-- What the loops over the six stages, and over those in use, do: the swaps of each stage, one exchange more, the stage at an index of the table. Assumes nothing.
 use mathlib.Core.Path.{_≡_, refl, sym, _∙_, ap}
 use mathlib.Core.Bool.{Bool, true, false, cond}
 use mathlib.Core.List.{List, [], _∷_, reverse, reverse-append}
@@ -6,13 +6,15 @@ use Prim.Native.Nat.{ℕ, zero, suc, _+_, _-_, _^_, _<_, _≤_}
 use native.Mathlib.Omega.{arith}
 use native.Mathlib.Nat.{not-suc-le-zero}
 use native.Mathlib.Numerals.{add-one}
-use lib.ListN.{length, getD, take, drop, replicate, length-replicate, List·getD-append, getD-replicate}
+use lib.ListN.{length, getD, take, drop, replicate, length-replicate, List·getD-append, getD-replicate, drop-of-length-le}
+use lib.Pow.{pow-mono}
 use lib.Seq.{take-suc, drop-cons, getD-append-add, getD-take}
-use Rattle.network.specs.Stage.{falling}
-use Rattle.network.specs.Word.{swapsOf, swapsAt, exchangeOf, exchangesOf, allPass, byIndex}
-use Rattle.network.proofs.Travel.{length-falling}
+use Rattle.network.specs.Stage.{stage, travel, falling}
+use Rattle.network.specs.Word.{swapsOf, swapsAt, exchangeOf, exchangesOf, allPass, byIndex, distances, travelOf}
+use Rattle.network.proofs.Travel.{length-falling, reverse-falling, length-distances, distances-fit, travel-wider}
+use Rattle.network.proofs.PairsExchanged.{exchange-stage}
 use Rattle.network.proofs.TableSteps.{falling-at}
-use Rattle.network.proofs.Filling.{reversed-at}
+use Rattle.network.proofs.Filling.{reverse-at, reversed-at}
 use Rattle.network.proofs.Six.{used}
 
 -- the swaps of a stage of the table
@@ -80,3 +82,39 @@ module _ (b : Bool) (L : ℕ) (hL : L ≤ 6) (cs : List ℕ) (hc : length cs ≡
           let q : 5 - i ≡ L - 1 - (i - (6 - L)) = omega arith in
           ap (λ (j : ℕ). getD cs j 0) q ∙ reversed-at cs L (omega arith) (i - (6 - L)) (omega arith)
       by false = sym (getD-take L cs (i - (6 - L)) 0 (omega arith))
+
+-- the distance of a stage by its number in the direction of travel
+pub distance-of : (b : Bool) (L at : ℕ) → at < L → L ≤ 6 → {v : ℕ} → v ≡ cond b (5 - at) (6 - L + at) → 2 ^ (5 - v) ≡ getD (distances b L) at 0
+distance-of true L at h l e =
+    let n = length-falling L in
+    let q : 5 - (5 - at) ≡ L - 1 - (L - 1 - at) = omega arith in
+    ap (λ (i : ℕ). 2 ^ (5 - i)) e
+    ∙ ap (λ (i : ℕ). 2 ^ i) q
+    ∙ sym (ap (λ (ds : List ℕ). getD ds at 0) (sym (reverse-falling L))
+    ∙ reverse-at (falling L) at (omega (arith, n))
+    ∙ ap (λ (i : ℕ). getD (falling L) (i - 1 - at) 0) n
+    ∙ falling-at L (L - 1 - at) (omega arith))
+distance-of false L at h l e =
+    let q : 5 - (6 - L + at) ≡ L - 1 - at = omega arith in
+    ap (λ (i : ℕ). 2 ^ (5 - i)) e ∙ ap (λ (i : ℕ). 2 ^ i) q ∙ sym (falling-at L at h)
+
+-- one stage more
+
+module _ (b : Bool) (L : ℕ) (cs : List ℕ) where
+  abbrev pub left : ℕ → ℕ → ℕ
+  left at x = travel 64 (drop at (distances b L)) (drop at cs) x
+
+  module _ (at x : ℕ) (h : at < L) (l : at < length cs) (hx : x < 2 ^ 64) where
+    pub send-turn : {d s y : ℕ} → 0 < d → d ≡ getD (distances b L) at 0 → s ≡ swapsOf d (getD cs at 0) → y ≡ exchangeOf d s x → left (at + 1) y ≡ left at x
+    unfolding travel
+    send-turn {d} pos e q r =
+        let y = r ∙ ap (λ (n : ℕ). exchangeOf d n x) q ∙ exchange-stage d (getD cs at 0) x pos hx ∙ ap (λ (n : ℕ). stage 64 n (getD cs at 0) x) e in
+        ap (left (at + 1)) y
+        ∙ rw (add-one at, drop-cons (distances b L) at 0 (omega (arith, length-distances b L)), drop-cons cs at 0 l)
+
+  pub send-end : {at x y : ℕ} → L ≤ 6 → at ≡ L → y < 2 ^ 2 ^ L → left at x ≡ left 0 y → x ≡ travelOf b L cs y
+  unfolding travel travelOf
+  send-end {at} {x} {y} hL e h q =
+      let none : drop L (distances b L) ≡ [] = drop-of-length-le (distances b L) {i = L} (omega (arith, length-distances b L)) in
+      let here : left at x ≡ x = ap (λ (n : ℕ). left n x) e ∙ ap (λ (ds : List ℕ). travel 64 ds (drop L cs) x) none in
+      sym here ∙ q ∙ travel-wider (pow-mono hL) (distances b L) cs (distances-fit b L (omega arith)) h

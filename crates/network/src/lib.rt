@@ -6,9 +6,9 @@ ghost use mathlib.Core.List.{reverse};
 ghost use lib.Dec.{eqb};
 ghost use lib.ListN.{getD, take};
 ghost use Rattle.bits.specs.Bit.{ofBits};
-ghost use Rattle.bits.specs.Refusal.{logOf};
+ghost use Rattle.bits.specs.Refusal.{logOf, accepted};
 ghost use Rattle.network.specs.Stage.{falling, rising, butterflyOf, inverseOf};
-ghost use Rattle.network.specs.Word.{spreadOf, swapsOf, swapsAt, exchangeOf, exchangesOf, byIndex, travelOf};
+ghost use Rattle.network.specs.Word.{spreadOf, swapsOf, swapsAt, exchangeOf, exchangesOf, byIndex, distances, travelOf};
 ghost use Rattle.network.specs.Decoder.{turned, controlAt, decodeOf, decodeInverseOf};
 ghost use Rattle.network.specs.Calls.{usedBits, controlsFit, networkRefusal, networkAnswer, prepareAnswer, six, decodeRefusal, decodeAnswer};
 
@@ -53,14 +53,14 @@ const PAIRS: [u64; 6] = [
     0x5555555555555555,
 ];
 
-// internal: a stage of the table. The control bits of a stage, each brought to the lower place of its switch: at each stage down the table
-// the two halves of every block move apart.
-fn spread(index: usize, stage: u32) -> u64
-    requires { ⌜ index < 6 ⌝ }
+// internal: a stage of the table, from `first` down, and no more control bits than that one's distance. The control bits, each brought to
+// the lower place of its switch: at each stage down the table the two halves of every block move apart.
+fn spread(first: usize, index: usize, stage: u32) -> u64
+    requires { ⌜ (first ≤ index) × (index < 6) × (stage < 2 ^ 2 ^ (5 - first)) ⌝ }
     ensures { λ r. ⌜ r ≡ spreadOf (2 ^ (5 - index)) stage ⌝ }
 {
     let mut bits = stage as u64;
-    let mut at: usize = 0;
+    let mut at = first;
     while at < index {
         at += 1;
         bits = (bits | (bits << DISTANCES[at])) & PAIRS[at];
@@ -68,12 +68,12 @@ fn spread(index: usize, stage: u32) -> u64
     bits
 }
 
-// internal: a stage of the table. The lower places of the pairs that swap.
-fn swaps(index: usize, stage: u32) -> u64
-    requires { ⌜ index < 6 ⌝ }
+// internal: the same stage. The lower places of the pairs that swap.
+fn swaps(first: usize, index: usize, stage: u32) -> u64
+    requires { ⌜ (first ≤ index) × (index < 6) × (stage < 2 ^ 2 ^ (5 - first)) ⌝ }
     ensures { λ r. ⌜ r ≡ swapsOf (2 ^ (5 - index)) stage ⌝ }
 {
-    PAIRS[index] & !spread(index, stage)
+    PAIRS[index] & !spread(first, index, stage)
 }
 
 // internal: a stage of the table. The pairs whose lower places `swaps` marks are exchanged, all at once. (No other place should be marked.)
@@ -84,32 +84,6 @@ fn exchange(index: usize, swaps: u64, word: u64) -> u64
     let distance = DISTANCES[index];
     let differ = (word ^ (word >> distance)) & swaps;
     word ^ differ ^ (differ << distance)
-}
-
-// internal: a logarithm of at most 6, and an index of the table. The stage there, of the inverse (rising) or of the butterfly; one that is
-// not in use passes every bit.
-fn stage_in_table(rising: bool, log: usize, stages: [u32; 6], index: usize) -> u32
-    requires { ⌜ (log ≤ 6) × (index < 6) ⌝ }
-    ensures { λ r. ⌜ r ≡ getD (byIndex rising log stages) index 0 ⌝ }
-{
-    if index < 6 - log {
-        return 0xFFFFFFFF;
-    }
-    stages[stage_at(rising, log, index)]
-}
-
-// internal: a logarithm of at most 6. All six stages by their index in the table.
-fn by_index(rising: bool, log: usize, stages: [u32; 6]) -> [u32; 6]
-    requires { ⌜ log ≤ 6 ⌝ }
-    ensures { λ r. ⌜ r ≡ byIndex rising log stages ⌝ }
-{
-    let mut placed = [0u32; 6];
-    let mut index: usize = 0;
-    while index < 6 {
-        placed[index] = stage_in_table(rising, log, stages, index);
-        index += 1;
-    }
-    placed
 }
 
 // internal: a stage in use. Its number in the direction of travel.
@@ -123,6 +97,38 @@ fn stage_at(rising: bool, log: usize, index: usize) -> usize
     index - (6 - log)
 }
 
+// internal: a logarithm of at most 6. All six stages of the inverse (rising) or of the butterfly by their index in the table; one that is
+// not in use passes every bit.
+fn by_index(rising: bool, log: usize, stages: [u32; 6]) -> [u32; 6]
+    requires { ⌜ log ≤ 6 ⌝ }
+    ensures { λ r. ⌜ r ≡ byIndex rising log stages ⌝ }
+{
+    let mut placed = [0xFFFFFFFFu32; 6];
+    let mut index = 6 - log;
+    while index < 6 {
+        placed[index] = stages[stage_at(rising, log, index)];
+        index += 1;
+    }
+    placed
+}
+
+// internal: an accepted width. The same by each width, so that the compiler knows the stages in use.
+fn in_table(rising: bool, width: u32, stages: [u32; 6]) -> [u32; 6]
+    requires { ⌜ accepted width ≡ true ⌝ }
+    ensures { λ r. ⌜ r ≡ byIndex rising (logOf width) stages ⌝ }
+{
+    if width == 8 {
+        return by_index(rising, 3, stages);
+    }
+    if width == 16 {
+        return by_index(rising, 4, stages);
+    }
+    if width == 32 {
+        return by_index(rising, 5, stages);
+    }
+    by_index(rising, 6, stages)
+}
+
 // internal: the swaps of six stages by their index in the table. They serve any number of words.
 pub fn prepare(stages: [u32; 6]) -> [u64; 6]
     ensures { λ r. ⌜ r ≡ swapsAt (falling 6) stages ⌝ }
@@ -130,7 +136,7 @@ pub fn prepare(stages: [u32; 6]) -> [u64; 6]
     let mut words = [0u64; 6];
     let mut index: usize = 0;
     while index < 6 {
-        words[index] = swaps(index, stages[index]);
+        words[index] = swaps(0, index, stages[index]);
         index += 1;
     }
     words
@@ -162,16 +168,31 @@ pub fn inverse_prepared(words: [u64; 6], word: u64) -> u64
     carried
 }
 
-// internal: a logarithm of at most 6, and a word of that width. Through the inverse (rising) or the butterfly.
+// internal: a stage in use, by its number in the direction of travel. Its index in the table.
+fn index_of(rising: bool, log: usize, at: usize) -> usize
+    requires { ⌜ (at < log) × (log ≤ 6) ⌝ }
+    ensures { λ r. ⌜ (6 - log ≤ r) × (r < 6) × (2 ^ (5 - r) ≡ getD (distances rising log) at 0) ⌝ }
+{
+    if rising {
+        return 5 - at;
+    }
+    6 - log + at
+}
+
+// internal: a logarithm of at most 6, controls that fit it and a word of that width. Through the inverse (rising) or the butterfly, by the
+// stages in use alone.
 fn send(rising: bool, log: usize, stages: [u32; 6], word: u64) -> u64
-    requires { ⌜ (log ≤ 6) × (word < 2 ^ (2 ^ log)) ⌝ }
+    requires { ⌜ (log ≤ 6) × (word < 2 ^ 2 ^ log) × (controlsFit log 0 stages ≡ true) ⌝ }
     ensures { λ r. ⌜ r ≡ travelOf rising log stages word ⌝ }
 {
-    let words = prepare(by_index(rising, log, stages));
-    if rising {
-        return inverse_prepared(words, word);
+    let mut carried = word;
+    let mut at: usize = 0;
+    while at < log {
+        let index = index_of(rising, log, at);
+        carried = exchange(index, swaps(6 - log, index, stages[at]), carried);
+        at += 1;
     }
-    butterfly_prepared(words, word)
+    carried
 }
 
 // internal: a logarithm of at most 6. How many control bits stage `at` uses.
@@ -190,24 +211,20 @@ fn is_used_only(log: usize, stages: [u32; 6]) -> bool
     requires { ⌜ log ≤ 6 ⌝ }
     ensures { λ r. ⌜ r ≡ controlsFit log 0 stages ⌝ }
 {
+    let mut unused: u64 = 0;
     let mut at: usize = 0;
     while at < 6 {
-        if !bits::is_within(used_bits(log, at), stages[at] as u64) {
-            return false;
-        }
+        unused = unused | ((stages[at] as u64) >> used_bits(log, at));
         at += 1;
     }
-    true
+    unused == 0
 }
 
-// The lowest refusal of a call on a network; 0 if it is carried out.
-fn network_refusal(width: u32, stages: [u32; 6], word: u64) -> u8
+// internal: an accepted width and its logarithm. The lowest refusal of a call on a network at that width.
+fn refusal_at(width: u32, log: usize, stages: [u32; 6], word: u64) -> u8
+    requires { ⌜ (0 < log) × (log ≤ 6) × (log ≡ logOf width) ⌝ }
     ensures { λ r. ⌜ r ≡ networkRefusal width stages word ⌝ }
 {
-    let log = bits::log_of(width) as usize;
-    if log == 0 {
-        return bits::WIDTH;
-    }
     if !bits::is_within(width, word) {
         return bits::ABOVE;
     }
@@ -217,15 +234,22 @@ fn network_refusal(width: u32, stages: [u32; 6], word: u64) -> u8
     bits::CARRIED_OUT
 }
 
-// internal: the refusal of a call on the inverse (rising) or on the butterfly. Its word, 0 if it is refused.
-fn through(rising: bool, refused: u8, width: u32, stages: [u32; 6], word: u64) -> u64
-    requires { ⌜ refused ≡ networkRefusal width stages word ⌝ }
-    ensures { λ r. ⌜ r ≡ cond (eqb refused 0) (travelOf rising (logOf width) stages word) 0 ⌝ }
+// internal: below width 64. The lowest refusal of a call on a network; 0 if it is carried out. By each width, so that the compiler knows
+// which bits to test.
+fn network_refusal(width: u32, stages: [u32; 6], word: u64) -> u8
+    requires { ⌜ width < 64 ⌝ }
+    ensures { λ r. ⌜ r ≡ networkRefusal width stages word ⌝ }
 {
-    if refused != 0 {
-        return 0;
+    if width == 8 {
+        return refusal_at(8, 3, stages, word);
     }
-    send(rising, bits::log_of(width) as usize, stages, word)
+    if width == 16 {
+        return refusal_at(16, 4, stages, word);
+    }
+    if width == 32 {
+        return refusal_at(32, 5, stages, word);
+    }
+    bits::WIDTH
 }
 
 // internal: the word through the butterfly at width 64, where every control bit is used and every word fits
@@ -249,58 +273,114 @@ fn answer(refusal: u8, word: u64) -> Carried
     Carried { refusal, word }
 }
 
+// The answer of a call that prepares a network.
+fn prepare_answer(refusal: u8, swaps: [u64; 6]) -> Prepared
+    ensures { λ r. ⌜ r ≡ record { refusal = refusal; swaps = swaps } ⌝ }
+{
+    Prepared { refusal, swaps }
+}
+
+// internal: below width 64. By each width, so that the compiler knows the stages in use.
+fn butterfly_below(width: u32, controls: Controls, word: u64) -> Carried
+    requires { ⌜ width < 64 ⌝ }
+    ensures { λ r. ⌜ r ≡ networkAnswer butterflyOf width controls word ⌝ }
+{
+    let stages = controls.stages;
+    let refusal = network_refusal(width, stages, word);
+    if refusal != 0 {
+        return answer(refusal, 0);
+    }
+    if width == 8 {
+        return answer(0, send(false, 3, stages, word));
+    }
+    if width == 16 {
+        return answer(0, send(false, 4, stages, word));
+    }
+    answer(0, send(false, 5, stages, word))
+}
+
 // The word through the butterfly: distances w/2, .., 2, 1.
 pub fn butterfly(width: u32, controls: Controls, word: u64) -> Carried
     ensures { λ r. ⌜ r ≡ networkAnswer butterflyOf width controls word ⌝ }
 {
+    if width < 64 {
+        return butterfly_below(width, controls, word);
+    }
     let stages = controls.stages;
     if width == 64 {
         return answer(0, butterfly_64(stages, word));
     }
+    answer(bits::WIDTH, 0)
+}
+
+// internal: below width 64. By each width, as `butterfly_below`.
+fn inverse_below(width: u32, controls: Controls, word: u64) -> Carried
+    requires { ⌜ width < 64 ⌝ }
+    ensures { λ r. ⌜ r ≡ networkAnswer inverseOf width controls word ⌝ }
+{
+    let stages = controls.stages;
     let refusal = network_refusal(width, stages, word);
-    answer(refusal, through(false, refusal, width, stages, word))
+    if refusal != 0 {
+        return answer(refusal, 0);
+    }
+    if width == 8 {
+        return answer(0, send(true, 3, stages, word));
+    }
+    if width == 16 {
+        return answer(0, send(true, 4, stages, word));
+    }
+    answer(0, send(true, 5, stages, word))
 }
 
 // The word through the inverse butterfly: distances 1, 2, .., w/2.
 pub fn inverse(width: u32, controls: Controls, word: u64) -> Carried
     ensures { λ r. ⌜ r ≡ networkAnswer inverseOf width controls word ⌝ }
 {
+    if width < 64 {
+        return inverse_below(width, controls, word);
+    }
     let stages = controls.stages;
     if width == 64 {
         return answer(0, inverse_64(stages, word));
     }
-    let refusal = network_refusal(width, stages, word);
-    answer(refusal, through(true, refusal, width, stages, word))
+    answer(bits::WIDTH, 0)
 }
 
-// The inverse (rising) or the butterfly, prepared.
-fn prepare_either(rising: bool, width: u32, controls: Controls) -> Prepared
-    ensures { λ r. ⌜ r ≡ prepareAnswer rising width controls ⌝ }
+// The lowest refusal of a call that prepares a network; 0 if it is carried out.
+fn prepare_refusal(width: u32, stages: [u32; 6]) -> u8
+    ensures { λ r. ⌜ r ≡ networkRefusal width stages 0 ⌝ }
 {
-    let stages = controls.stages;
-    let refused = network_refusal(width, stages, 0);
-    if refused != 0 {
-        return Prepared {
-            refusal: refused,
-            swaps: [0u64; 6],
-        };
+    if width < 64 {
+        return network_refusal(width, stages, 0);
     }
-    let swaps = prepare(by_index(rising, bits::log_of(width) as usize, stages));
-    Prepared { refusal: 0, swaps }
+    if width == 64 {
+        return bits::CARRIED_OUT;
+    }
+    bits::WIDTH
 }
 
 // The butterfly, prepared: `butterfly_prepared` then sends any number of words through it.
 pub fn prepare_butterfly(width: u32, controls: Controls) -> Prepared
     ensures { λ r. ⌜ r ≡ prepareAnswer false width controls ⌝ }
 {
-    prepare_either(false, width, controls)
+    let stages = controls.stages;
+    let refusal = prepare_refusal(width, stages);
+    if refusal != 0 {
+        return prepare_answer(refusal, [0u64; 6]);
+    }
+    prepare_answer(0, prepare(in_table(false, width, stages)))
 }
 
 // The inverse, prepared: `inverse_prepared` then sends any number of words through it.
 pub fn prepare_inverse(width: u32, controls: Controls) -> Prepared
     ensures { λ r. ⌜ r ≡ prepareAnswer true width controls ⌝ }
 {
-    prepare_either(true, width, controls)
+    let stages = controls.stages;
+    let refusal = prepare_refusal(width, stages);
+    if refusal != 0 {
+        return prepare_answer(refusal, [0u64; 6]);
+    }
+    prepare_answer(0, prepare(in_table(true, width, stages)))
 }
 
 // internal: a distance of 1 to 32. As many zeros turned left `count` steps: as many ones come in at the right and go out at the left.

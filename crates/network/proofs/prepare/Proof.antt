@@ -1,6 +1,9 @@
 -- `network::prepare` meets its contract. Assumes nothing.
 use mathlib.Core.Path.{_≡_, refl, _∙_}
-use Prim.Native.Nat.{_-_, _≤_}
+use Prim.Native.Nat.{ℕ, _-_, _≤_}
+use mir.Val.{Fits}
+use mir.Syntax.{w32}
+use lib.ListN.{getD}
 use native.Mathlib.Omega.{arith}
 use Rattle.network.specs.Stage.{falling}
 use Rattle.network.specs.Word.{swapsAt}
@@ -26,7 +29,9 @@ array-read-swaps : tie.Need-array-read-swaps Inv-loop μ-loop
 array-read-swaps c = search needs
 
 swaps-requires : tie.Need-swaps-requires Inv-loop μ-loop
-swaps-requires c κs = search needs
+swaps-requires c κs =
+    let fit : (i : ℕ) → Fits w32 (getD (c .before .before .args .t1) i 0) = λ i. search needs in
+    (search needs, search needs, fit (c .before .loop .index) .fits)
 
 mul-words : tie.Need-mul-words Inv-loop μ-loop
 mul-words c = search needs

@@ -2,6 +2,7 @@
 use mathlib.Core.Path.{_≡_, sym, _∙_, ap}
 use native.Mathlib.Omega.{arith}
 use Prim.Native.Nat.{ℕ, _+_, _≤_, _-_, _^_}
+use lib.Pow.{pow-pos, pow-mono}
 use Rattle.network.specs.Word.{spreadOf}
 use Rattle.network.proofs.PairsExchanged.{spread-none}
 use Rattle.network.proofs.TableSteps.{distance-lt, spread-turn}
@@ -10,13 +11,13 @@ use Rattle.network.proofs.spread.Statement.{statement}
 use Rattle.network.proofs.spread.Tie as tie
 
 abbrev Inv-loop : tie.InvT-loop
-Inv-loop index stage bits₀ at₀ bits at = (at ≤ index) × (bits ≡ spreadOf (2 ^ (5 - at)) stage)
+Inv-loop first index stage bits₀ at₀ bits at = (at ≤ index) × (bits ≡ spreadOf (2 ^ (5 - at)) stage)
 
 abbrev μ-loop : tie.MeasureT-loop
-μ-loop index stage bits₀ at₀ bits at = index - at
+μ-loop first index stage bits₀ at₀ bits at = index - at
 
 loop-holds : tie.Need-loop-holds Inv-loop μ-loop
-loop-holds c = (search needs, sym (spread-none (search needs)))
+loop-holds c = let l : 5 - c .args .first ≤ 5 = omega arith in (search needs, sym (spread-none (pow-pos (5 - c .args .first)) (omega (arith, pow-mono l)) (search needs)))
 
 add-at : tie.Need-add-at Inv-loop μ-loop
 add-at c = search needs
