@@ -8,11 +8,11 @@ use lib.Seq.{drop-cons}
 use Rattle.unit.specs.Bank.{stagesOf, packedOf}
 
 -- n elements of a list from element i
-abbrev elements : List ℕ → ℕ → ℕ → List ℕ
+abbrev pub elements : List ℕ → ℕ → ℕ → List ℕ
 elements xs i zero = []
 elements xs i (suc n) = getD xs i 0 ∷ elements xs (suc i) n
 
-all-elements : (xs : List ℕ) (i n : ℕ) → i + n ≡ length xs → drop i xs ≡ elements xs i n
+pub all-elements : (xs : List ℕ) (i n : ℕ) → i + n ≡ length xs → drop i xs ≡ elements xs i n
 all-elements xs i zero e = let h : length xs ≤ i = omega arith in drop-of-length-le xs h
 all-elements xs i (suc n) e =
     drop-cons xs i 0 (omega arith) ∙ ap (λ (ys : List ℕ). getD xs i 0 ∷ ys) (all-elements xs (suc i) n (omega arith))

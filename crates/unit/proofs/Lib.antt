@@ -1,6 +1,8 @@
 pub mod Held
-pub mod Width
 pub mod Tables
+pub mod RegistersTested
+pub mod LentRegisters
+pub mod KeptNetworks
 pub mod LowestRefusals
 pub mod OperationLists
 pub mod Runs

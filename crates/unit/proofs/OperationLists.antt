@@ -1,6 +1,6 @@
 -- A run's list: its bytes by fours, and its lowest refusal as one goes through it. Assumes nothing.
-use mathlib.Core.Path.{_≡_, refl, sym, _∙_, ap₂}
-use mathlib.Core.Bool.{Bool, true, false, not, cond, _||_, or-assoc}
+use mathlib.Core.Path.{_≡_, refl, sym, _∙_}
+use mathlib.Core.Bool.{Bool, true, false, not, cond, _&&_, _||_}
 use mathlib.Core.List.{List, [], _∷_}
 use Prim.Native.Nat.{ℕ, suc, _+_, _%_, _<_, _≤_}
 use native.Mathlib.Omega.{arith}
@@ -10,8 +10,8 @@ use lib.Seq.{drop-cons}
 use borrow.Author.Tests.{eqb-true, leb-true, not-false}
 use Rattle.bits.specs.Refusal.{lowest}
 use Rattle.bits.proofs.Refusals.{NoneApplies, none-applies, neither}
-use Rattle.unit.specs.Operation.{isKind, usedOf, areRegisters, operationRefusal}
-use Rattle.unit.specs.Run.{Operation, operationAt, ownRefusal, operationsOf, anyKind, anyRegister, lowerOf, operationsRefusal, runConditions, runRefusal}
+use Rattle.unit.specs.Operation.{isKind, usedOf, areRegisters}
+use Rattle.unit.specs.Run.{Operation, operationAt, operationsOf, anyKind, anyRegister, operationsRefusal, runConditions, runRefusal}
 
 module _ (bytes : List ℕ) (i : ℕ) where
   pub operations-next : i + 3 < length bytes → operationsOf (drop i bytes) ≡ operationAt bytes i ∷ operationsOf (drop (i + 4) bytes)
@@ -31,55 +31,41 @@ module _ (bytes : List ℕ) (i : ℕ) where
   unfolding operationsOf
   operations-end h = rw (drop-of-length-le bytes h)
 
--- the refusal, from whether some kind and whether some register number is not there
-abbrev found : Bool → Bool → ℕ
-found p q = lowest ((7, p) ∷ (8, q) ∷ [])
-
-found-lower : (p q a b : Bool) → lowerOf (found p q) (found a b) ≡ found (p || a) (q || b)
-unfolding lowerOf
-found-lower true q true b = refl
-found-lower true q false true = refl
-found-lower true q false false = refl
-found-lower false true true b = refl
-found-lower false true false true = refl
-found-lower false true false false = refl
-found-lower false false true b = refl
-found-lower false false false true = refl
-found-lower false false false false = refl
+-- one test more, of those that all hold so far
+and-more : (a b r : Bool) → (not (a && b) || r) ≡ (not a || (not b || r))
+and-more true b r = refl
+and-more false b r = refl
 
 or-false : (a : Bool) → (a || false) ≡ a
 or-false true = refl
 or-false false = refl
 
--- r is the lowest refusal of the operations before `rest`
-pub record Sofar (os : List Operation) (r : ℕ) (rest : List Operation) : Type 0 where
-  pub kind : Bool
-  pub register : Bool
-  pub value : r ≡ found kind register
-  pub kinds : (kind || anyKind rest) ≡ anyKind os
-  pub registers : (register || anyRegister rest) ≡ anyRegister os
+-- whether the kinds, and the register numbers, of all operations before `rest` are there
+pub record Sofar (os : List Operation) (kinds registers : Bool) (rest : List Operation) : Type 0 where
+  pub any-kind : (not kinds || anyKind rest) ≡ anyKind os
+  pub any-register : (not registers || anyRegister rest) ≡ anyRegister os
 
-pub sofar-none : {os : List Operation} → Sofar os 0 os
-sofar-none = record { kind = false; register = false; value = refl; kinds = refl; registers = refl }
+pub sofar-none : {os : List Operation} → Sofar os true true os
+sofar-none = record { any-kind = refl; any-register = refl }
 
-pub sofar-next : {os rest : List Operation} {o : Operation} {r own s : ℕ} → Sofar os r (o ∷ rest) → own ≡ ownRefusal o
-    → s ≡ lowerOf r own → Sofar os s rest
-unfolding anyKind anyRegister operationRefusal
-sofar-next {os} {rest} {o} {r} {own} {s} h e f =
-    let a = not (isKind (o .0) (o .1)) in
-    let b = not (areRegisters (usedOf (o .0) (o .1) (o .2) (o .3))) in
-    record {
-      kind = h .kind || a;
-      register = h .register || b;
-      value = f ∙ ap₂ lowerOf (h .value) e ∙ found-lower (h .kind) (h .register) a b;
-      kinds = or-assoc (h .kind) a (anyKind rest) ∙ h .kinds;
-      registers = or-assoc (h .register) b (anyRegister rest) ∙ h .registers;
-    }
+pub sofar-next : {os rest : List Operation} {o : Operation} {kinds registers k r : Bool} → Sofar os kinds registers (o ∷ rest)
+    → k ≡ isKind (o .0) (o .1) → r ≡ areRegisters (usedOf (o .0) (o .1) (o .2) (o .3)) → Sofar os (kinds && k) (registers && r) rest
+unfolding anyKind anyRegister
+sofar-next {os} {rest} {o} {kinds} {registers} h e f =
+    rw (e, f)
+    (record {
+      any-kind = and-more kinds (isKind (o .0) (o .1)) (anyKind rest) ∙ h .any-kind;
+      any-register = and-more registers (areRegisters (usedOf (o .0) (o .1) (o .2) (o .3))) (anyRegister rest) ∙ h .any-register;
+    })
 
-pub sofar-all : {os : List Operation} {r : ℕ} → Sofar os r [] → r ≡ operationsRefusal os
+-- the refusal of all, from the outcomes of the two tests
+pub sofar-all : {os : List Operation} {kinds registers : Bool} → Sofar os kinds registers [] → {a b : Bool} → not kinds ≡ a → not registers ≡ b
+    → operationsRefusal os ≡ lowest ((7, a) ∷ (8, b) ∷ [])
 unfolding anyKind anyRegister operationsRefusal
-sofar-all h =
-    h .value ∙ ap₂ found (sym (or-false (h .kind)) ∙ h .kinds) (sym (or-false (h .register)) ∙ h .registers)
+sofar-all {os} {kinds} {registers} h e f =
+    let p = sym (h .any-kind) ∙ or-false (not kinds) ∙ e in
+    let q = sym (h .any-register) ∙ or-false (not registers) ∙ f in
+    λ i. lowest ((7, p i) ∷ (8, q i) ∷ [])
 
 -- the refusal of a run, from the outcomes of the tests of its length
 pub run-refusal-by : (bytes : List ℕ) {a b : Bool} {r : ℕ} → eqb (length bytes % 4) 0 ≡ a → leb (length bytes) 4096 ≡ b

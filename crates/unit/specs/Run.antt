@@ -8,7 +8,7 @@ use Rattle.bits.specs.Refusal.{lowest}
 use Rattle.unit.specs.declared.Bank.{Bank}
 use Rattle.unit.specs.declared.Outcome.{Outcome}
 use Rattle.unit.specs.declared.Ran.{Ran}
-use Rattle.unit.specs.Operation.{cyclesOf, isKind, usedOf, areRegisters, operationRefusal, stepOf}
+use Rattle.unit.specs.Operation.{cyclesOf, isKind, usedOf, areRegisters, stepOf}
 
 -- "An operation is four bytes: kind, r1, r2, r3."
 abbrev pub Operation : Type 0
@@ -25,10 +25,7 @@ operationsOf (kind ∷ r1 ∷ r2 ∷ r3 ∷ bytes) = (kind, r1, r2, r3) ∷ oper
 abbrev pub operationAt : List ℕ → ℕ → Operation
 operationAt bytes i = (getD bytes i 0, getD bytes (i + 1) 0, getD bytes (i + 2) 0, getD bytes (i + 3) 0)
 
--- the refusal of an operation, and the bank after it
-abbrev pub ownRefusal : Operation → ℕ
-ownRefusal o = operationRefusal (o .0) (o .1) (o .2) (o .3)
-
+-- the bank after an operation
 abbrev pub stepBy : Bank → Operation → Bank
 stepBy k o = stepOf k (o .0) (o .1) (o .2) (o .3)
 
@@ -55,10 +52,6 @@ anyKind (o ∷ os) = not (isKind (o .0) (o .1)) || anyKind os
 unfoldable pub anyRegister : List Operation → Bool
 anyRegister [] = false
 anyRegister (o ∷ os) = not (areRegisters (usedOf (o .0) (o .1) (o .2) (o .3))) || anyRegister os
-
--- the lower of two refusals, 0 being none
-unfoldable pub lowerOf : ℕ → ℕ → ℕ
-lowerOf a b = cond (eqb a 0) b (cond (eqb b 0) a (cond (ltb b a) b a))
 
 -- 'Calls turned back': 7 and 8 of any operation of the list
 abbrev pub operationsConditions : List Operation → List (ℕ × Bool)

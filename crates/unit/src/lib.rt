@@ -1,14 +1,18 @@
 // The register unit (paper 01, 'The register unit'; demand 2): the bank of registers by value, one operation, a run with a budget of cycles.
 ghost use mathlib.Core.Path.{_≡_};
 ghost use Prim.Native.Nat.{_+_, _*_, _/_, _%_, _^_, _≤_, _<_};
-ghost use lib.ListN.{length, set};
-ghost use Rattle.gather.specs.Gather.{gatherOf, scatterOf, groupOf};
+ghost use mathlib.Core.Bool.{true, false, cond};
+ghost use mathlib.Core.List.{_++_, reverse};
+ghost use lib.Dec.{eqb};
+ghost use lib.ListN.{length, getD, set, take};
 ghost use Rattle.network.specs.Decoder.{decodeOf, decodeInverseOf};
 ghost use Rattle.network.specs.Stage.{butterflyOf, inverseOf};
-ghost use Rattle.unit.specs.Bank.{register, withRegister, withB, withIb, stagesOf, packedOf};
+ghost use Rattle.network.specs.Word.{preparedOf};
+ghost use Rattle.unit.specs.Bank.{stagesOf, packedOf};
+ghost use Rattle.unit.specs.Lent.{Sized, bankOf, loadedOf, keptOf, isFor, Kept};
 ghost use Rattle.unit.specs.Calls.{operateOf, numberRefusal, readOf, writeOf};
-ghost use Rattle.unit.specs.Run.{operationAt, stepBy, ownRefusal, operationsOf, ranOf, lowerOf, operationsRefusal, runRefusal, endedOf, outcomeOf, runOf};
-ghost use Rattle.unit.specs.Operation.{cyclesOf, isKind, usedOf, areRegisters, operationRefusal, loadOf};
+ghost use Rattle.unit.specs.Run.{operationAt, stepBy, operationsOf, ranOf, operationsRefusal, runRefusal, ranAt, outcomeOf, runOf};
+ghost use Rattle.unit.specs.Operation.{cyclesOf, isKind, usedOf, areRegisters, operationRefusal};
 
 // The registers of the unit: sixteen general ones, and the controls of both networks, two stages a register, the earlier one in the low half.
 #[repr(C)]
@@ -26,29 +30,26 @@ const DONE: u8 = 1;
 
 const SPENT: u8 = 2;
 
-// General register `number`.
-fn general_at(bank: Bank, number: u8) -> u64
-    ensures { λ r. ⌜ r ≡ register bank number ⌝ }
+// internal: sixteen general registers. Register `number`.
+fn general_at(general: &[u64; 16], number: u8) -> u64
+    requires { ⌜ length (now general) ≡ 16 ⌝ }
+    ensures { λ r. ⌜ r ≡ getD (now (general .entry)) number 0 ⌝ }
 {
-    let general = bank.general;
     if 15 < number {
         return 0;
     }
     general[number as usize]
 }
 
-// The bank with a value in general register `number`.
-fn with_general(bank: Bank, number: u8, value: u64) -> Bank
-    ensures { λ r. ⌜ r ≡ withRegister bank number value ⌝ }
+// internal: sixteen general registers. A value into register `number`.
+fn put(general: &mut [u64; 16], number: u8, value: u64)
+    requires { ⌜ length (now general) ≡ 16 ⌝ }
+    ensures { λ r. ⌜ now (general .exit) ≡ set (now (general .entry)) number value ⌝ }
 {
-    let mut general = bank.general;
     if 15 < number {
-        return bank;
+        return;
     }
     general[number as usize] = value;
-    let mut after = bank;
-    after.general = general;
-    after
 }
 
 // What one operation answers: 0 and its cycles, or the number of the refusal and a zero.
@@ -138,18 +139,97 @@ fn packed(stages: [u32; 6]) -> [u64; 3]
     ]
 }
 
-// The word through the butterfly at a triple of registers.
-fn butterfly_at(registers: [u64; 3], word: u64) -> u64
-    ensures { λ r. ⌜ r ≡ butterflyOf 6 (stagesOf registers) word ⌝ }
+// The stages, the last first.
+fn reversed(stages: [u32; 6]) -> [u32; 6]
+    ensures { λ r. ⌜ r ≡ reverse stages ⌝ }
 {
-    network::butterfly_64(stages_of(registers), word)
+    [
+        stages[5],
+        stages[4],
+        stages[3],
+        stages[2],
+        stages[1],
+        stages[0],
+    ]
 }
 
-// The word through the inverse at a triple of registers.
-fn inverse_at(registers: [u64; 3], word: u64) -> u64
-    ensures { λ r. ⌜ r ≡ inverseOf 6 (stagesOf registers) word ⌝ }
+// The swaps of the inverse (rising) or of the butterfly at a triple of registers.
+fn prepared(rising: bool, registers: [u64; 3]) -> [u64; 6]
+    ensures { λ r. ⌜ r ≡ preparedOf rising 6 (stagesOf registers) ⌝ }
 {
-    network::inverse_64(stages_of(registers), word)
+    let stages = stages_of(registers);
+    if rising {
+        return network::prepare(reversed(stages));
+    }
+    network::prepare(stages)
+}
+
+// Six words of swaps, and after them the registers that they are for.
+fn beside(words: [u64; 6], registers: [u64; 3]) -> [u64; 9]
+    ensures { λ r. ⌜ r ≡ words ++ registers ⌝ }
+{
+    [
+        words[0],
+        words[1],
+        words[2],
+        words[3],
+        words[4],
+        words[5],
+        registers[0],
+        registers[1],
+        registers[2],
+    ]
+}
+
+// The words of swaps alone.
+fn words_of(kept: [u64; 9]) -> [u64; 6]
+    ensures { λ r. ⌜ r ≡ take 6 kept ⌝ }
+{
+    [kept[0], kept[1], kept[2], kept[3], kept[4], kept[5]]
+}
+
+// Both, for a triple of registers.
+fn kept_for(rising: bool, registers: [u64; 3]) -> [u64; 9]
+    ensures { λ r. ⌜ r ≡ keptOf rising registers ⌝ }
+{
+    beside(prepared(rising, registers), registers)
+}
+
+// internal: what is kept of a network, and a triple of registers. Whether it is for these.
+fn is_for(kept: &[u64; 9], registers: &[u64; 3]) -> bool
+    requires { ⌜ (length (now kept) ≡ 9) × (length (now registers) ≡ 3) ⌝ }
+    ensures { λ r. ⌜ r ≡ isFor (now (kept .entry)) (now (registers .entry)) ⌝ }
+{
+    (kept[6] == registers[0]) & (kept[7] == registers[1]) & (kept[8] == registers[2])
+}
+
+// internal: what is kept of the inverse (rising) or of the butterfly, and a triple of registers. It is made for these, unless it is so already.
+fn keep(rising: bool, kept: &mut [u64; 9], registers: &[u64; 3])
+    requires { ⌜ Kept rising (now kept) × (length (now registers) ≡ 3) ⌝ }
+    ensures { λ r. ⌜ now (kept .exit) ≡ keptOf rising (now (registers .entry)) ⌝ }
+{
+    if is_for(kept, registers) {
+        return;
+    }
+    *kept = kept_for(rising, *registers);
+}
+
+// internal: what is kept of the butterfly, and a triple of registers. The word through it at these.
+fn butterfly_at(kept: &mut [u64; 9], registers: &[u64; 3], word: u64) -> u64
+    requires { ⌜ Kept false (now kept) × (length (now registers) ≡ 3) ⌝ }
+    ensures { λ r. ⌜ (r ≡ butterflyOf 6 (stagesOf (now (registers .entry))) word) × Kept false (now (kept .exit)) ⌝ }
+{
+    keep(false, kept, registers);
+    network::butterfly_prepared(words_of(*kept), word)
+}
+
+// internal: what is kept of the inverse, and a triple of registers. The word through it at these.
+fn inverse_at(kept: &mut [u64; 9], registers: &[u64; 3], word: u64) -> u64
+    requires { ⌜ Kept true (now kept) × (length (now registers) ≡ 3) ⌝ }
+    ensures { λ r. ⌜ (r ≡ inverseOf 6 (stagesOf (now (registers .entry))) word) × Kept true (now (kept .exit)) ⌝ }
+{
+    keep(true, kept, registers);
+    network::inverse_prepared(words_of(*kept), word)
 }
 
 // The butterfly's controls for a mask, in a triple of registers.
@@ -164,25 +244,6 @@ fn decoded_inverse(mask: u64) -> [u64; 3]
     ensures { λ r. ⌜ r ≡ packedOf (decodeInverseOf 6 mask) ⌝ }
 {
     packed(network::decode_inverse_64(mask))
-}
-
-// The word gathered, scattered and grouped at width 64.
-fn gathered(mask: u64, word: u64) -> u64
-    ensures { λ r. ⌜ r ≡ gatherOf 64 mask word ⌝ }
-{
-    gather::gather(64, mask, word).word
-}
-
-fn scattered(mask: u64, word: u64) -> u64
-    ensures { λ r. ⌜ r ≡ scatterOf 64 mask word ⌝ }
-{
-    gather::scatter(64, mask, word).word
-}
-
-fn grouped(mask: u64, word: u64) -> u64
-    ensures { λ r. ⌜ r ≡ groupOf 64 mask word ⌝ }
-{
-    gather::group(64, mask, word).word
 }
 
 // The cycles of a kind.
@@ -202,36 +263,14 @@ fn is_kind(kind: u8, r1: u8) -> bool
     (1 <= kind) & (kind <= 10) & ((kind != 5) | (1 <= r1) & (r1 <= 4))
 }
 
-// Whether every register number in use is one of a general register.
+// Whether every register number in use is one of a general register. No branch here depends on the bytes: a run asks this of its whole list, many at a time.
 fn are_registers(kind: u8, r1: u8, r2: u8, r3: u8) -> bool
     ensures { λ r. ⌜ r ≡ areRegisters (usedOf kind r1 r2 r3) ⌝ }
 {
-    match kind {
-        1 => (r2 <= 15) & (r1 <= 15),
-        2 => (r2 <= 15) & (r1 <= 15),
-        3 => (r3 <= 15) & (r2 <= 15) & (r1 <= 15),
-        4 => (r3 <= 15) & (r2 <= 15) & (r1 <= 15),
-        5 => are_loaded(r1, r2, r3),
-        6 => (r3 <= 15) & (r2 <= 15) & (r1 <= 15),
-        7 => (r3 <= 15) & (r2 <= 15) & (r1 <= 15),
-        8 => r3 <= 15,
-        9 => r3 <= 15,
-        10 => (r3 <= 15) & (r2 <= 15) & (r1 <= 15),
-        _ => true,
-    }
-}
-
-// The same of kind 5, where r1 says what is loaded.
-fn are_loaded(r1: u8, r2: u8, r3: u8) -> bool
-    ensures { λ r. ⌜ r ≡ areRegisters (usedOf 5 r1 r2 r3) ⌝ }
-{
-    match r1 {
-        1 => (r3 <= 15) & (r2 <= 15),
-        2 => r2 <= 15,
-        3 => (r3 <= 15) & (r2 <= 15),
-        4 => r2 <= 15,
-        _ => true,
-    }
+    let first = (kind == 5) | (kind == 8) | (kind == 9) | (r1 <= 15);
+    let second = (kind == 8) | (kind == 9) | (r2 <= 15);
+    let third = (kind <= 2) | (kind == 5) & (r1 % 2 == 0) | (r3 <= 15);
+    !is_kind(kind, r1) | third & second & first
 }
 
 // The lowest refusal of an operation; 0 if it is carried out.
@@ -247,78 +286,65 @@ fn operation_refusal(kind: u8, r1: u8, r2: u8, r3: u8) -> u8
     bits::CARRIED_OUT
 }
 
-// The bank with control registers b, or ib.
-fn with_b(bank: Bank, registers: [u64; 3]) -> Bank
-    ensures { λ r. ⌜ r ≡ withB bank registers ⌝ }
+// One of two words.
+fn pick(chosen: bool, a: u64, b: u64) -> u64
+    ensures { λ r. ⌜ r ≡ cond chosen a b ⌝ }
 {
-    let mut after = bank;
-    after.b = registers;
-    after
-}
-
-fn with_ib(bank: Bank, registers: [u64; 3]) -> Bank
-    ensures { λ r. ⌜ r ≡ withIb bank registers ⌝ }
-{
-    let mut after = bank;
-    after.ib = registers;
-    after
-}
-
-// The registers with their first two replaced, or with the third.
-fn with_two(registers: [u64; 3], first: u64, second: u64) -> [u64; 3]
-    ensures { λ r. ⌜ r ≡ set (set registers 0 first) 1 second ⌝ }
-{
-    let mut after = registers;
-    after[0] = first;
-    after[1] = second;
-    after
-}
-
-fn with_third(registers: [u64; 3], third: u64) -> [u64; 3]
-    ensures { λ r. ⌜ r ≡ set registers 2 third ⌝ }
-{
-    let mut after = registers;
-    after[2] = third;
-    after
-}
-
-// Kind 5: words x and y, of registers r2 and r3, into control registers.
-fn load(bank: Bank, r1: u8, x: u64, y: u64) -> Bank
-    ensures { λ r. ⌜ r ≡ loadOf bank r1 x y ⌝ }
-{
-    let b = bank.b;
-    let ib = bank.ib;
-    match r1 {
-        1 => with_b(bank, with_two(b, x, y)),
-        2 => with_b(bank, with_third(b, x)),
-        3 => with_ib(bank, with_two(ib, x, y)),
-        4 => with_ib(bank, with_third(ib, x)),
-        _ => bank,
+    if chosen {
+        return a;
     }
+    b
 }
 
-// internal: an operation at byte `at`. The bank after it, if it is accepted: the table of paper 01. Both operands are read before the result is written.
-fn step(bank: Bank, ops: &[u8], at: usize) -> Bank
-    requires { ⌜ at + 3 < length (now ops) ⌝ }
-    ensures { λ r. ⌜ r ≡ stepBy bank (operationAt (now (ops .entry)) at) ⌝ }
+// internal: three control registers. x and y into the first two, if `two`, and x into the third, if `third`.
+fn load_some(registers: &mut [u64; 3], two: bool, third: bool, x: u64, y: u64)
+    requires { ⌜ length (now registers) ≡ 3 ⌝ }
+    ensures { λ r. ⌜ now (registers .exit) ≡ loadedOf two third (now (registers .entry)) x y ⌝ }
 {
-    let b = bank.b;
-    let ib = bank.ib;
+    registers[0] = pick(two, x, registers[0]);
+    registers[1] = pick(two, y, registers[1]);
+    registers[2] = pick(third, x, registers[2]);
+}
+
+// internal: three control registers each. Kind 5: words x and y, of registers r2 and r3, into control registers.
+fn load(b: &mut [u64; 3], ib: &mut [u64; 3], r1: u8, x: u64, y: u64)
+    requires { ⌜ (length (now b) ≡ 3) × (length (now ib) ≡ 3) ⌝ }
+    ensures { λ r. ⌜ (now (b .exit) ≡ loadedOf (eqb r1 1) (eqb r1 2) (now (b .entry)) x y) × (now (ib .exit) ≡ loadedOf (eqb r1 3) (eqb r1 4) (now (ib .entry)) x y) ⌝ }
+{
+    load_some(b, r1 == 1, r1 == 2, x, y);
+    load_some(ib, r1 == 3, r1 == 4, x, y);
+}
+
+// internal: the registers of a bank, what is kept of both networks, and an operation at byte `at`. The table of paper 01: the registers after it, if it is
+// accepted. Both operands are read before the result is written.
+fn step(
+    general: &mut [u64; 16],
+    b: &mut [u64; 3],
+    ib: &mut [u64; 3],
+    falling: &mut [u64; 9],
+    rising: &mut [u64; 9],
+    ops: &[u8],
+    at: usize,
+)
+    requires { ⌜ Sized (now general) (now b) (now ib) × Kept false (now falling) × Kept true (now rising) × (at + 3 < length (now ops)) ⌝ }
+    ensures { λ r. ⌜ (bankOf (now (general .exit)) (now (b .exit)) (now (ib .exit)) ≡ stepBy (bankOf (now (general .entry)) (now (b .entry)) (now (ib .entry))) (operationAt (now (ops .entry)) at))
+        × Kept false (now (falling .exit)) × Kept true (now (rising .exit)) ⌝ }
+{
     let r1 = ops[at + 1];
-    let y = general_at(bank, ops[at + 3]);
-    let x = general_at(bank, ops[at + 2]);
+    let y = general_at(general, ops[at + 3]);
+    let x = general_at(general, ops[at + 2]);
     match ops[at] {
-        1 => with_general(bank, r1, butterfly_at(b, x)),
-        2 => with_general(bank, r1, inverse_at(ib, x)),
-        3 => with_general(bank, r1, inverse_at(ib, x & y)),
-        4 => with_general(bank, r1, butterfly_at(b, x) & y),
-        5 => load(bank, r1, x, y),
-        6 => with_general(bank, r1, gathered(y, x)),
-        7 => with_general(bank, r1, scattered(y, x)),
-        8 => with_ib(bank, decoded_inverse(y)),
-        9 => with_b(bank, decoded(y)),
-        10 => with_general(bank, r1, grouped(y, x)),
-        _ => bank,
+        1 => put(general, r1, butterfly_at(falling, b, x)),
+        2 => put(general, r1, inverse_at(rising, ib, x)),
+        3 => put(general, r1, inverse_at(rising, ib, x & y)),
+        4 => put(general, r1, butterfly_at(falling, b, x) & y),
+        5 => load(b, ib, r1, x, y),
+        6 => put(general, r1, gather::gather_64(y, x)),
+        7 => put(general, r1, gather::scatter_64(y, x)),
+        8 => *ib = decoded_inverse(y),
+        9 => *b = decoded(y),
+        10 => put(general, r1, gather::group_64(y, x)),
+        _ => {}
     }
 }
 
@@ -336,13 +362,27 @@ pub fn operate(bank: Bank, kind: u8, r1: u8, r2: u8, r3: u8) -> Operated
             bank,
         };
     }
+    let mut general = bank.general;
+    let mut b = bank.b;
+    let mut ib = bank.ib;
     let bytes = [kind, r1, r2, r3];
+    let mut falling = kept_for(false, [0u64; 3]);
+    let mut rising = kept_for(true, [0u64; 3]);
+    step(
+        &mut general,
+        &mut b,
+        &mut ib,
+        &mut falling,
+        &mut rising,
+        &bytes,
+        0,
+    );
     Operated {
         answer: Cycles {
             refusal: 0,
             cycles: cycles_of(kind),
         },
-        bank: step(bank, &bytes, 0),
+        bank: Bank { general, b, ib },
     }
 }
 
@@ -367,9 +407,10 @@ pub fn read(bank: Bank, number: u8) -> Register
             value: 0,
         };
     }
+    let general = bank.general;
     Register {
         refusal: 0,
-        value: general_at(bank, number),
+        value: general_at(&general, number),
     }
 }
 
@@ -384,34 +425,12 @@ pub fn write(bank: Bank, number: u8, value: u64) -> Written
             bank,
         };
     }
+    let mut after = bank;
+    put(&mut after.general, number, value);
     Written {
         refusal: 0,
-        bank: with_general(bank, number, value),
+        bank: after,
     }
-}
-
-// The lower of two refusals; 0 is none.
-fn lower(a: u8, b: u8) -> u8
-    ensures { λ r. ⌜ r ≡ lowerOf a b ⌝ }
-{
-    if a == 0 {
-        return b;
-    }
-    if b == 0 {
-        return a;
-    }
-    if b < a {
-        return b;
-    }
-    a
-}
-
-// internal: an operation at byte `at`. Its lowest refusal.
-fn refusal_at(ops: &[u8], at: usize) -> u8
-    requires { ⌜ at + 3 < length (now ops) ⌝ }
-    ensures { λ r. ⌜ r ≡ ownRefusal (operationAt (now (ops .entry)) at) ⌝ }
-{
-    operation_refusal(ops[at], ops[at + 1], ops[at + 2], ops[at + 3])
 }
 
 // internal: whole operations. The lowest refusal of any of them; 0 if there is none.
@@ -419,13 +438,21 @@ fn operations_refusal(ops: &[u8]) -> u8
     requires { ⌜ length (now ops) % 4 ≡ 0 ⌝ }
     ensures { λ r. ⌜ r ≡ operationsRefusal (operationsOf (now (ops .entry))) ⌝ }
 {
-    let mut refused = bits::CARRIED_OUT;
+    let mut kinds = true;
+    let mut registers = true;
     let mut at: usize = 0;
     while at < ops.len() {
-        refused = lower(refused, refusal_at(ops, at));
+        kinds = kinds & is_kind(ops[at], ops[at + 1]);
+        registers = registers & are_registers(ops[at], ops[at + 1], ops[at + 2], ops[at + 3]);
         at += 4;
     }
-    refused
+    if !kinds {
+        return bits::KIND;
+    }
+    if !registers {
+        return bits::REGISTER;
+    }
+    bits::CARRIED_OUT
 }
 
 // The lowest refusal of a run's list; 0 if it is carried out.
@@ -441,41 +468,68 @@ fn run_refusal(ops: &[u8]) -> u8
     operations_refusal(ops)
 }
 
-// internal: whole operations, at most 1,024. They are carried out while the next one's cycles fit in what is left of the budget.
-fn carry_out(bank: Bank, ops: &[u8], budget: u32) -> Ran
-    requires { ⌜ (length (now ops) % 4 ≡ 0) × (length (now ops) ≤ 4096) ⌝ }
-    ensures { λ r. ⌜ r ≡ outcomeOf bank (operationsOf (now (ops .entry))) (ranOf budget (operationsOf (now (ops .entry)))) ⌝ }
+// internal: the registers of a bank, and whole operations, at most 1,024. They are carried out while the next one's cycles fit in what is left of the budget.
+fn carry_out(
+    general: &mut [u64; 16],
+    b: &mut [u64; 3],
+    ib: &mut [u64; 3],
+    ops: &[u8],
+    budget: u32,
+) -> Outcome
+    requires { ⌜ Sized (now general) (now b) (now ib) × (length (now ops) % 4 ≡ 0) × (length (now ops) ≤ 4096) ⌝ }
+    ensures { λ r. ⌜ ranAt r (bankOf (now (general .exit)) (now (b .exit)) (now (ib .exit))) ≡ outcomeOf (bankOf (now (general .entry)) (now (b .entry)) (now (ib .entry))) (operationsOf (now (ops .entry))) (ranOf budget (operationsOf (now (ops .entry)))) ⌝ }
 {
-    let mut after = bank;
+    let mut falling = kept_for(false, [0u64; 3]);
+    let mut rising = kept_for(true, [0u64; 3]);
     let mut left = budget;
     let mut ran: u32 = 0;
     let mut at: usize = 0;
     while at < ops.len() {
         let cycles = cycles_of(ops[at]);
         if left < cycles {
-            return ended(SPENT, ran, budget - left, after);
+            return ended(SPENT, ran, budget - left);
         }
-        after = step(after, ops, at);
+        step(general, b, ib, &mut falling, &mut rising, ops, at);
         left -= cycles;
         ran += 1;
         at += 4;
     }
-    ended(DONE, ran, budget - left, after)
+    ended(DONE, ran, budget - left)
 }
 
-// The answer of a run that was carried out, and its bank.
-fn ended(end: u8, ran: u32, cycles: u32, bank: Bank) -> Ran
-    ensures { λ r. ⌜ r ≡ endedOf «end» ran cycles bank ⌝ }
+// The answer of a run that was carried out.
+fn ended(end: u8, ran: u32, cycles: u32) -> Outcome
+    ensures { λ r. ⌜ r ≡ record { refusal = 0; «end» = «end»; ran = ran; cycles = cycles } ⌝ }
 {
-    Ran {
-        run: Outcome {
-            refusal: 0,
-            end,
-            ran,
-            cycles,
-        },
-        bank,
+    Outcome {
+        refusal: 0,
+        end,
+        ran,
+        cycles,
     }
+}
+
+// internal: the registers of a bank. A run of the list on them, or its refusal.
+fn run_on(
+    general: &mut [u64; 16],
+    b: &mut [u64; 3],
+    ib: &mut [u64; 3],
+    ops: &[u8],
+    budget: u32,
+) -> Outcome
+    requires { ⌜ Sized (now general) (now b) (now ib) ⌝ }
+    ensures { λ r. ⌜ ranAt r (bankOf (now (general .exit)) (now (b .exit)) (now (ib .exit))) ≡ runOf (bankOf (now (general .entry)) (now (b .entry)) (now (ib .entry))) (now (ops .entry)) budget ⌝ }
+{
+    let refused = run_refusal(ops);
+    if refused != 0 {
+        return Outcome {
+            refusal: refused,
+            end: 0,
+            ran: 0,
+            cycles: 0,
+        };
+    }
+    carry_out(general, b, ib, ops, budget)
 }
 
 // A run of the list on the bank within a budget of cycles: done or spent, the operations run and their cycles; or the lowest refusal of the whole list and the
@@ -483,17 +537,12 @@ fn ended(end: u8, ran: u32, cycles: u32, bank: Bank) -> Ran
 pub fn run(bank: Bank, ops: &[u8], budget: u32) -> Ran
     ensures { λ r. ⌜ r ≡ runOf bank (now (ops .entry)) budget ⌝ }
 {
-    let refused = run_refusal(ops);
-    if refused != 0 {
-        return Ran {
-            run: Outcome {
-                refusal: refused,
-                end: 0,
-                ran: 0,
-                cycles: 0,
-            },
-            bank,
-        };
+    let mut general = bank.general;
+    let mut b = bank.b;
+    let mut ib = bank.ib;
+    let run = run_on(&mut general, &mut b, &mut ib, ops, budget);
+    Ran {
+        run,
+        bank: Bank { general, b, ib },
     }
-    carry_out(bank, ops, budget)
 }

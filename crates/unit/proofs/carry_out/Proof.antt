@@ -1,77 +1,60 @@
 -- `unit::carry_out` meets its contract. Assumes nothing.
-use mathlib.Core.Path.{_≡_, _∙_}
+use mathlib.Core.Path.{_≡_, refl}
+use mathlib.Core.Bool.{true, false}
 use Prim.Native.Nat.{_+_, _-_, _*_, _<_, _≤_}
 use borrow.Author.Needs.{needs}
-use lib.ListN.{length, drop}
-use Rattle.unit.specs.Run.{operationsOf}
+use lib.ListN.{length, drop, replicate}
+use Rattle.unit.specs.Run.{operationAt, operationsOf}
+use Rattle.unit.specs.Lent.{bankOf, Sized, Kept}
 use Rattle.unit.proofs.OperationLists.{operations-next, operations-end}
+use Rattle.unit.proofs.LentRegisters.{sized-after}
+use Rattle.unit.proofs.KeptNetworks.{kept-is}
 use Rattle.unit.proofs.Runs.{Going, going-none, going-next, going-spent, going-done}
 use Rattle.unit.proofs.carry_out.Statement.{statement}
 use Rattle.unit.proofs.carry_out.Tie as tie
 
 abbrev Inv-loop : tie.InvT-loop
-Inv-loop ops budget after₀ left₀ ran₀ at₀ after left ran at =
-    (at ≤ length ops) × (at ≡ ran * 4) × Going after₀ (operationsOf ops) budget after left ran (operationsOf (drop at ops))
+Inv-loop general₀ b₀ ib₀ ops budget falling₀ rising₀ left₀ ran₀ at₀ general b ib falling rising left ran at =
+    (at ≤ length ops) × (at ≡ ran * 4) × Sized general b ib × Kept false falling × Kept true rising
+    × Going (bankOf general₀ b₀ ib₀) (operationsOf ops) budget (bankOf general b ib) left ran (operationsOf (drop at ops))
 
 abbrev μ-loop : tie.MeasureT-loop
-μ-loop ops budget after₀ left₀ ran₀ at₀ after left ran at = length ops - at
+μ-loop general₀ b₀ ib₀ ops budget falling₀ rising₀ left₀ ran₀ at₀ general b ib falling rising left ran at = length ops - at
 
 loop-holds : tie.Need-loop-holds Inv-loop μ-loop
-loop-holds c = (search needs, search needs, going-none)
-
-shared-slice-read-cycles-of : tie.Need-shared-slice-read-cycles-of Inv-loop μ-loop
-shared-slice-read-cycles-of c = search needs
-
-cycles-of-requires : tie.Need-cycles-of-requires Inv-loop μ-loop
-cycles-of-requires c κs = search needs
-
-sub-ended : tie.Need-sub-ended Inv-loop μ-loop
-sub-ended c = search needs
-
-ended-requires : tie.Need-ended-requires Inv-loop μ-loop
-ended-requires c κs = search needs
+loop-holds c = (
+  search needs,
+  search needs,
+  c .before .before .before .pre .0,
+  kept-is (replicate 3 0) refl false (c .before .kept-for .ensures),
+  kept-is (replicate 3 0) refl true (c .kept-for2 .ensures),
+  going-none,
+)
 
 returns : tie.Need-returns Inv-loop μ-loop
 returns c =
     let b = c .before .before in
     let l = b .before .before .before .loop in
-    let ops = b .before .before .before .before .before .args .ops .now in
+    let ops = b .before .before .before .before .before .before .before .args .ops .now in
     let h : l .at + 3 < length ops = search needs in
-    let g = rw (operations-next ops (l .at) h) at (l .inv .2) in
-    c .ended .ensures ∙ going-spent g (b .cycles-of .ensures) (c .before .if1 .taken)
-
-step-requires : tie.Need-step-requires Inv-loop μ-loop
-step-requires c κs = search needs
-
-add-ran : tie.Need-add-ran Inv-loop μ-loop
-add-ran c = search needs
-
-add-at : tie.Need-add-at Inv-loop μ-loop
-add-at c = search needs
-
-loop-less : tie.Need-loop-less Inv-loop μ-loop
-loop-less c = search needs
+    let g = rw (operations-next ops (l .at) h) at (l .inv .5) in
+    rw (c .ended .ensures) (going-spent g (b .cycles-of .ensures) (c .before .if1 .taken))
 
 loop-again : tie.Need-loop-again Inv-loop μ-loop
 loop-again c =
-    let b = c .before .before in
+    let b = c .before .before .before .before .before .before .before in
     let l = b .before .before .before .loop in
-    let ops = b .before .before .before .before .before .args .ops .now in
+    let ops = b .before .before .before .before .before .before .before .args .ops .now in
     let h : l .at + 3 < length ops = search needs in
-    let g = rw (operations-next ops (l .at) h) at (l .inv .2) in
-    (search needs, search needs, going-next g (b .cycles-of .ensures) (search needs) (c .step .ensures))
-
-sub-ended-2 : tie.Need-sub-ended-2 Inv-loop μ-loop
-sub-ended-2 c = search needs
-
-ended-requires-2 : tie.Need-ended-requires-2 Inv-loop μ-loop
-ended-requires-2 c κs = search needs
+    let g = rw (operations-next ops (l .at) h) at (l .inv .5) in
+    let e = c .step .ensures .0 in
+    (search needs, search needs, sized-after (bankOf (l .general) (l .b) (l .ib)) (operationAt ops (l .at)) (l .inv .2) e, c .step .ensures .1, c .step .ensures .2, going-next g (b .cycles-of .ensures) (search needs) e)
 
 returns-2 : tie.Need-returns-2 Inv-loop μ-loop
 returns-2 c =
     let l = c .before .before .loop in
-    let ops = c .before .before .before .before .args .ops .now in
-    c .ended2 .ensures ∙ going-done (rw (operations-end ops (l .at) (c .before .loop-test .left)) at (l .inv .2))
+    let ops = c .before .before .before .before .before .before .args .ops .now in
+    rw (c .ended2 .ensures) (going-done (rw (operations-end ops (l .at) (c .before .loop-test .left)) at (l .inv .5)))
 
 pub carry-out-spec : {M : Type 1} → statement M
 carry-out-spec =
@@ -79,17 +62,19 @@ carry-out-spec =
     (tie.spec
     Inv-loop
     μ-loop
+    (λ c κs. search needs)
+    (λ c κs. search needs)
     loop-holds
-    shared-slice-read-cycles-of
-    cycles-of-requires
-    sub-ended
-    ended-requires
+    (λ c. search needs)
+    (λ c κs. search needs)
+    (λ c. search needs)
+    (λ c κs. search needs)
     returns
-    step-requires
-    add-ran
-    add-at
-    loop-less
+    (λ c κs. search needs)
+    (λ c. search needs)
+    (λ c. search needs)
+    (λ c. search needs)
     loop-again
-    sub-ended-2
-    ended-requires-2
+    (λ c. search needs)
+    (λ c κs. search needs)
     returns-2)

@@ -1,16 +1,17 @@
 -- `unit::inverse_at` meets its contract. Assumes nothing.
+use mathlib.Core.Bool.{true}
 use borrow.Author.Needs.{needs}
+use Rattle.unit.proofs.KeptNetworks.{kept-is, inverse-kept}
 use Rattle.unit.proofs.inverse_at.Statement.{statement}
 use Rattle.unit.proofs.inverse_at.Tie as tie
 
-stages-of-requires : tie.Need-stages-of-requires
-stages-of-requires c κs = search needs
-
-inverse-64-requires : tie.Need-inverse-64-requires
-inverse-64-requires c κs = search needs
-
 returns : tie.Need-returns
-returns c = cc
+returns c =
+    let k = c .before .before .before in
+    let s = k .before .before in
+    let rs = s .args .registers .now in
+    let e = k .keep .ensures in
+    (inverse-kept rs (s .pre .1) (search needs) e (c .before .words-of .ensures) (c .inverse-prepared .ensures), kept-is rs (s .pre .1) true e)
 
 pub inverse-at-spec : {M : Type 1} → statement M
-inverse-at-spec = tie.close (tie.spec stages-of-requires inverse-64-requires returns)
+inverse-at-spec = tie.close (tie.spec (λ c κs. search needs) (λ c κs. search needs) (λ c κs. search needs) returns)

@@ -1,7 +1,12 @@
 -- `unit::operate` meets its contract. Assumes nothing.
+use mathlib.Core.Path.{refl, ap}
+use mathlib.Core.Bool.{true, false}
 use borrow.Author.Needs.{needs}
 use borrow.Author.Tests.{eq-eqb, ne-eqb}
-use Rattle.unit.specs.Calls.{operateOf}
+use lib.ListN.{replicate}
+use Rattle.unit.specs.Calls.{operated, operateOf}
+use Rattle.unit.specs.Lent.{Sized}
+use Rattle.unit.proofs.KeptNetworks.{kept-is}
 use Rattle.unit.proofs.operate.Statement.{statement}
 use Rattle.unit.proofs.operate.Tie as tie
 
@@ -12,22 +17,33 @@ returns : tie.Need-returns
 unfolding operateOf
 returns c = rw (← c .before .operation-refusal .ensures, ne-eqb _ _ (c .if1 .taken))
 
-cycles-of-requires : tie.Need-cycles-of-requires
-cycles-of-requires c κs = search needs
+kept-for-requires : tie.Need-kept-for-requires
+kept-for-requires c κs = search needs
+
+kept-for-requires-2 : tie.Need-kept-for-requires-2
+kept-for-requires-2 c κs = search needs
 
 slice-aggregate-step : tie.Need-slice-aggregate-step
 slice-aggregate-step c = search needs
 
+sized : (c : tie.After-ib) → let k = c .before .before .before .before .before .args .bank in Sized (k .general) (k .b) (k .ib)
+sized c = (search needs, search needs, search needs)
+
 step-requires : tie.Need-step-requires
-step-requires c κs = search needs
+step-requires c κs =
+    let k = c .before .before .before .before .before .before in
+    (sized (k .before .before), kept-is (replicate 3 0) refl false (k .before .kept-for .ensures), kept-is (replicate 3 0) refl true (k .kept-for2 .ensures), search needs)
+
+cycles-of-requires : tie.Need-cycles-of-requires
+cycles-of-requires c κs = search needs
 
 returns-2 : tie.Need-returns-2
 unfolding operateOf
 returns-2 c =
-    let b = c .before .before .before in
-    rw (← b .before .operation-refusal .ensures, eq-eqb _ _ (b .if1 .left), c .before .before .cycles-of .ensures, c .step .ensures)
+    let b = c .before .before .before .before .before .before .before .before .before .before .before .before .before in
+    rw (← b .before .operation-refusal .ensures, eq-eqb _ _ (b .if1 .left), c .cycles-of .ensures) (ap (operated _) (c .before .step .ensures .0))
 
 pub operate-spec : {M : Type 1} → statement M
 operate-spec =
     tie.close
-    (tie.spec operation-refusal-requires returns cycles-of-requires slice-aggregate-step step-requires returns-2)
+    (tie.spec operation-refusal-requires returns kept-for-requires kept-for-requires-2 slice-aggregate-step step-requires cycles-of-requires returns-2)

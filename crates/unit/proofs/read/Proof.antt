@@ -18,7 +18,7 @@ general-at-requires c κs = search needs
 returns-2 : tie.Need-returns-2
 unfolding readOf
 returns-2 c =
-    let b = c .before in
+    let b = c .before .before .before in
     rw (← b .before .number-refusal .ensures, eq-eqb _ _ (b .if1 .left), c .general-at .ensures)
 
 pub read-spec : {M : Type 1} → statement M

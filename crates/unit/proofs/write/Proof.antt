@@ -12,14 +12,14 @@ returns : tie.Need-returns
 unfolding writeOf
 returns c = rw (← c .before .number-refusal .ensures, ne-eqb _ _ (c .if1 .taken))
 
-with-general-requires : tie.Need-with-general-requires
-with-general-requires c κs = search needs
+put-requires : tie.Need-put-requires
+put-requires c κs = search needs
 
 returns-2 : tie.Need-returns-2
 unfolding writeOf
 returns-2 c =
-    let b = c .before in
-    rw (← b .before .number-refusal .ensures, eq-eqb _ _ (b .if1 .left), c .with-general .ensures)
+    let b = c .before .before in
+    rw (← b .before .number-refusal .ensures, eq-eqb _ _ (b .if1 .left), c .put .ensures)
 
 pub write-spec : {M : Type 1} → statement M
-write-spec = tie.close (tie.spec number-refusal-requires returns with-general-requires returns-2)
+write-spec = tie.close (tie.spec number-refusal-requires returns put-requires returns-2)

@@ -1,0 +1,40 @@
+-- The registers of a bank as inner functions lend them, one array each. No public contract cites this file. Assumes nothing.
+use mathlib.Core.Path.{_≡_}
+use mathlib.Core.Bool.{Bool, cond, _&&_}
+use mathlib.Core.List.{List, _++_}
+use Prim.Native.Nat.{ℕ}
+use lib.Dec.{eqb}
+use lib.ListN.{length, getD, set}
+use Rattle.network.specs.Word.{preparedOf}
+use Rattle.unit.specs.declared.Bank.{Bank}
+use Rattle.unit.specs.Bank.{stagesOf}
+
+-- the bank of these registers
+abbrev pub bankOf : List ℕ → List ℕ → List ℕ → Bank
+bankOf g b i = record { general = g; b = b; ib = i }
+
+-- they are as many as a bank has
+abbrev pub Sized : List ℕ → List ℕ → List ℕ → Type 0
+Sized g b i = (length g ≡ 16) × (length b ≡ 3) × (length i ≡ 3)
+
+-- control registers with x and y in the first two, if `two`
+abbrev pub withTwo : Bool → List ℕ → ℕ → ℕ → List ℕ
+withTwo two rs x y = cond two (set (set rs 0 x) 1 y) rs
+
+-- and then with x in the third, if `third`
+abbrev pub loadedOf : Bool → Bool → List ℕ → ℕ → ℕ → List ℕ
+loadedOf two third rs x y = cond third (set (withTwo two rs x y) 2 x) (withTwo two rs x y)
+
+-- The swaps of the inverse (true) or of the butterfly at control registers, and after them these registers: what a run keeps of a network that it has prepared
+abbrev pub keptOf : Bool → List ℕ → List ℕ
+keptOf rising rs = preparedOf rising 6 (stagesOf rs) ++ rs
+
+pub record Kept (rising : Bool) (ks : List ℕ) : Type 0 where
+  pub registers : List ℕ
+  pub three : length registers ≡ 3
+  pub nine : length ks ≡ 9
+  pub is : ks ≡ keptOf rising registers
+
+-- are they these registers?
+abbrev pub isFor : List ℕ → List ℕ → Bool
+isFor ks rs = eqb (getD ks 6 0) (getD rs 0 0) && eqb (getD ks 7 0) (getD rs 1 0) && eqb (getD ks 8 0) (getD rs 2 0)
