@@ -9,7 +9,7 @@ use Rattle.bits.specs.Bit.{ofBits}
 use Rattle.network.specs.Word.{atLower, pairs}
 
 -- f at n places from i up
-tabulate : (ℕ → ℕ) → ℕ → ℕ → List ℕ
+unfoldable pub tabulate : (ℕ → ℕ) → ℕ → ℕ → List ℕ
 tabulate f i zero = []
 tabulate f i (suc n) = f i ∷ tabulate f (suc i) n
 
@@ -19,7 +19,7 @@ tabulated f i zero k h = absurd (not-suc-le-zero h)
 tabulated f i (suc n) zero h = let e : i ≡ i + 0 = omega arith in ap f e
 tabulated f i (suc n) (suc k) h = let e : suc i + k ≡ i + suc k = omega arith in tabulated f (suc i) n k (omega arith) ∙ ap f e
 
-entries : (f : ℕ → ℕ) {xs : List ℕ} (n : ℕ) → xs ≡ tabulate f 0 n → (k : ℕ) → k < n → getD xs k 0 ≡ f k
+pub entries : (f : ℕ → ℕ) {xs : List ℕ} (n : ℕ) → xs ≡ tabulate f 0 n → (k : ℕ) → k < n → getD xs k 0 ≡ f k
 entries f n e k h = ap (λ (t : List ℕ). getD t k 0) e ∙ tabulated f 0 n k h ∙ ap f (zero-add k)
 
 -- the code's tables

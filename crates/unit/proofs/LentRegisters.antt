@@ -2,12 +2,16 @@
 use mathlib.Core.Path.{_≡_, refl, sym, _∙_, ap, ap₂, subst⁻¹}
 use mathlib.Core.Bool.{Bool, true, false, cond}
 use mathlib.Core.List.{List, [], _∷_}
-use Prim.Native.Nat.{ℕ}
-use lib.Bits.{bitAnd}
+use mathlib.Core.Logic.{_⊎_, inl, inr}
+use Prim.Native.Nat.{ℕ, _-_, _*_, _^_, _<_}
+use native.Mathlib.Omega.{arith}
+use native.Mathlib.Nat.{mod-eq-of-lt}
+use lib.Bits.{bitAnd, bitXor, and-mask, and-zero-r, xor-zero-r, xor-lt}
 use lib.Dec.{eqb}
 use lib.ListN.{length, getD, set, length-set}
-use lib.Seq.{set-getD}
+use lib.Seq.{set-set}
 use borrow.Author.Tests.{ne-eqb}
+use Rattle.bits.proofs.Word.{digit, bit-lt, bit-xor, ext}
 use Rattle.gather.specs.Gather.{gatherOf, scatterOf, groupOf}
 use Rattle.network.specs.Stage.{falling, butterflyOf, inverseOf}
 use Rattle.network.specs.Decoder.{decodeOf, decodeInverseOf}
@@ -15,31 +19,47 @@ use Rattle.unit.specs.declared.Bank.{Bank}
 use Rattle.unit.specs.Bank.{withRegister, stagesOf, packedOf}
 use Rattle.unit.specs.Operation.{loads, loadOf, effects, effectOf, stepOf}
 use Rattle.unit.specs.Run.{Operation, stepBy}
-use Rattle.unit.specs.Lent.{bankOf, Sized, withTwo, loadedOf}
+use Rattle.unit.specs.Lent.{bankOf, Sized, loadedAt}
 use Rattle.unit.proofs.Tables.{by-entry}
 
--- the code's way to load: at each register the new word is picked, or the old one
-module _ (rs : List ℕ) (x y : ℕ) where
-  two-are : (two : Bool) {p q : ℕ} → p ≡ cond two x (getD rs 0 0) → q ≡ cond two y (getD (set rs 0 p) 1 0) → set (set rs 0 p) 1 q ≡ withTwo two rs x y
-  two-are true e f = rw (e, f)
-  two-are false {p} e f =
-      ap (set (set rs 0 p) 1) f ∙ set-getD (set rs 0 p) 1 0 ∙ ap (set rs 0) e ∙ set-getD rs 0 0
+-- kind 5, by the code's steps: of two stores the second is y, or x again
+module _ (rs : List ℕ) (x y : ℕ) (hx : x < 2 ^ 64) (hy : y < 2 ^ 64) where
+  last-is : {odd : ℕ} → (odd ≡ 0) ⊎ (odd ≡ 1) → bitXor x (bitAnd (bitXor x y) (odd * (2 ^ 64 - 1))) ≡ cond (eqb odd 1) y x
+  last-is (inl e) = rw e (ap (bitXor x) (and-zero-r (bitXor x y)) ∙ xor-zero-r x)
+  last-is (inr e) =
+      rw e
+      (ap (bitXor x) (and-mask (bitXor x y) 64 ∙ mod-eq-of-lt (xor-lt 64 x y hx hy))
+      ∙ ext 64 (xor-lt 64 x (bitXor x y) hx (xor-lt 64 x y hx hy)) hy (λ i l. rw (bit-xor, bit-xor) (omega (arith, bit-lt x i, bit-lt y i))))
 
-  third-is : (third : Bool) (rs′ : List ℕ) {bs : List ℕ} → rs′ ≡ bs → {t : ℕ} → t ≡ cond third x (getD rs′ 2 0) → set rs′ 2 t ≡ cond third (set bs 2 x) bs
-  third-is true rs′ m g = rw (g, m)
-  third-is false rs′ m g = ap (set rs′ 2) g ∙ set-getD rs′ 2 0 ∙ m
+  pub loaded-by : (odd : ℕ) → odd < 2
+      → set (set rs (2 - 2 * odd) x) (2 - odd) (bitXor x (bitAnd (bitXor x y) (odd * (2 ^ 64 - 1)))) ≡ loadedAt (2 - odd) rs x y
+  loaded-by odd h = ap (set (set rs (2 - 2 * odd) x) (2 - odd)) (last-is (digit odd h)) ∙ by-digit (digit odd h)
+    where
+      by-digit : (odd ≡ 0) ⊎ (odd ≡ 1) → set (set rs (2 - 2 * odd) x) (2 - odd) (cond (eqb odd 1) y x) ≡ loadedAt (2 - odd) rs x y
+      by-digit (inl e) = rw e (set-set rs 2 x x)
+      by-digit (inr e) = rw e
 
-  pub loaded-are : (two third : Bool) {p q t : ℕ} → p ≡ cond two x (getD rs 0 0) → q ≡ cond two y (getD (set rs 0 p) 1 0)
-      → t ≡ cond third x (getD (set (set rs 0 p) 1 q) 2 0) → set (set (set rs 0 p) 1 q) 2 t ≡ loadedOf two third rs x y
-  loaded-are two third {p} {q} e f g = third-is third (set (set rs 0 p) 1 q) (two-are two e f) g
+pub ones-fit : (odd : ℕ) → odd < 2 → odd * (2 ^ 64 - 1) < 2 ^ 64
+ones-fit odd h = by-digit (digit odd h)
+  where
+    by-digit : (odd ≡ 0) ⊎ (odd ≡ 1) → odd * (2 ^ 64 - 1) < 2 ^ 64
+    by-digit (inl e) = rw e (omega arith)
+    by-digit (inr e) = rw e (omega arith)
+
+-- nothing is loaded at any other number
+pub loaded-none : (rs : List ℕ) (x y : ℕ) {r : ℕ} → (r ≡ 1 → ⊥) → (r ≡ 2 → ⊥) → loadedAt r rs x y ≡ rs
+loaded-none rs x y {r} n k = rw (ne-eqb r 1 n, ne-eqb r 2 k)
 
 -- both triples loaded so are what kind 5 loads
-load-is : (g b i : List ℕ) (r1 x y : ℕ)
-    → bankOf g (loadedOf (eqb r1 1) (eqb r1 2) b x y) (loadedOf (eqb r1 3) (eqb r1 4) i x y) ≡ loadOf (bankOf g b i) r1 x y
+load-is : (g b i : List ℕ) (r1 x y : ℕ) → bankOf g (loadedAt r1 b x y) (loadedAt (r1 - 2) i x y) ≡ loadOf (bankOf g b i) r1 x y
 unfolding loadOf
 load-is g b i r1 x y =
-    by-entry (λ r k. bankOf g (loadedOf (eqb r 1) (eqb r 2) b x y) (loadedOf (eqb r 3) (eqb r 4) i x y) ≡ k) r1 (loads (bankOf g b i) x y) (bankOf g b i)
-    (refl, (refl, (refl, (refl, tt)))) (λ n. rw (ne-eqb r1 1 (n .0), ne-eqb r1 2 (n .1 .0), ne-eqb r1 3 (n .1 .1 .0), ne-eqb r1 4 (n .1 .1 .1 .0)))
+    by-entry (λ r k. bankOf g (loadedAt r b x y) (loadedAt (r - 2) i x y) ≡ k) r1 (loads (bankOf g b i) x y) (bankOf g b i)
+    (refl, (refl, (refl, (refl, tt))))
+    (λ n.
+    let three : r1 - 2 ≡ 1 → ⊥ = λ e. n .1 .1 .0 (omega arith) in
+    let four : r1 - 2 ≡ 2 → ⊥ = λ e. n .1 .1 .1 .0 (omega arith) in
+    ap₂ (bankOf g) (loaded-none b x y (n .0) (n .1 .0)) (loaded-none i x y three four))
 
 -- The table's rows, by the steps of the code: the operands as they were read, and what was computed of them
 module _ (k : Bank) (r1 : ℕ) {x y x′ y′ : ℕ} (p : x′ ≡ x) (q : y′ ≡ y) where
@@ -78,8 +98,8 @@ module _ (k : Bank) (r1 : ℕ) {x y x′ y′ : ℕ} (p : x′ ≡ x) (q : y′ 
   unfolding effectOf
   row-10 e h s = at-kind 10 e (put (λ a b. groupOf 64 b a) h s)
 
-  pub row-5 : {kind : ℕ} → kind ≡ 5 → {b : List ℕ} → b ≡ loadedOf (eqb r1 1) (eqb r1 2) (k .b) x′ y′ → {i : List ℕ}
-      → i ≡ loadedOf (eqb r1 3) (eqb r1 4) (k .ib) x′ y′ → bankOf (k .general) b i ≡ effectOf k kind r1 x y
+  pub row-5 : {kind : ℕ} → kind ≡ 5 → {b : List ℕ} → b ≡ loadedAt r1 (k .b) x′ y′ → {i : List ℕ}
+      → i ≡ loadedAt (r1 - 2) (k .ib) x′ y′ → bankOf (k .general) b i ≡ effectOf k kind r1 x y
   unfolding effectOf
   row-5 e f h =
       at-kind 5 e

@@ -1,5 +1,5 @@
 -- A run's list: its bytes by fours, and its lowest refusal as one goes through it. Assumes nothing.
-use mathlib.Core.Path.{_≡_, refl, sym, _∙_}
+use mathlib.Core.Path.{_≡_, refl, sym, _∙_, ap}
 use mathlib.Core.Bool.{Bool, true, false, not, cond, _&&_, _||_}
 use mathlib.Core.List.{List, [], _∷_}
 use Prim.Native.Nat.{ℕ, suc, _+_, _%_, _<_, _≤_}
@@ -40,31 +40,38 @@ or-false : (a : Bool) → (a || false) ≡ a
 or-false true = refl
 or-false false = refl
 
--- whether the kinds, and the register numbers, of all operations before `rest` are there
-pub record Sofar (os : List Operation) (kinds registers : Bool) (rest : List Operation) : Type 0 where
-  pub any-kind : (not kinds || anyKind rest) ≡ anyKind os
+-- all kinds before `rest` are there, and whether all register numbers are
+pub record Sofar (os : List Operation) (registers : Bool) (rest : List Operation) : Type 0 where
+  pub any-kind : anyKind rest ≡ anyKind os
   pub any-register : (not registers || anyRegister rest) ≡ anyRegister os
 
-pub sofar-none : {os : List Operation} → Sofar os true true os
+pub sofar-none : {os : List Operation} → Sofar os true os
 sofar-none = record { any-kind = refl; any-register = refl }
 
-pub sofar-next : {os rest : List Operation} {o : Operation} {kinds registers k r : Bool} → Sofar os kinds registers (o ∷ rest)
-    → k ≡ isKind (o .0) (o .1) → r ≡ areRegisters (usedOf (o .0) (o .1) (o .2) (o .3)) → Sofar os (kinds && k) (registers && r) rest
-unfolding anyKind anyRegister
-sofar-next {os} {rest} {o} {kinds} {registers} h e f =
-    rw (e, f)
-    (record {
-      any-kind = and-more kinds (isKind (o .0) (o .1)) (anyKind rest) ∙ h .any-kind;
-      any-register = and-more registers (areRegisters (usedOf (o .0) (o .1) (o .2) (o .3))) (anyRegister rest) ∙ h .any-register;
-    })
+module _ {os rest : List Operation} {o : Operation} {registers : Bool} (h : Sofar os registers (o ∷ rest)) {k : Bool} (e : k ≡ isKind (o .0) (o .1)) where
+  pub sofar-next : {r : Bool} → k ≡ true → r ≡ areRegisters (usedOf (o .0) (o .1) (o .2) (o .3)) → Sofar os (registers && r) rest
+  unfolding anyKind anyRegister
+  sofar-next t f =
+      rw f
+      (record {
+        any-kind = ap (λ (b : Bool). not b || anyKind rest) (sym t ∙ e) ∙ h .any-kind;
+        any-register = and-more registers (areRegisters (usedOf (o .0) (o .1) (o .2) (o .3))) (anyRegister rest) ∙ h .any-register;
+      })
 
--- the refusal of all, from the outcomes of the two tests
-pub sofar-all : {os : List Operation} {kinds registers : Bool} → Sofar os kinds registers [] → {a b : Bool} → not kinds ≡ a → not registers ≡ b
-    → operationsRefusal os ≡ lowest ((7, a) ∷ (8, b) ∷ [])
+  -- a kind that is not there is the refusal of all
+  pub sofar-kind : k ≡ false → operationsRefusal os ≡ 7
+  unfolding anyKind anyRegister operationsRefusal
+  sofar-kind f =
+      let p = sym (h .any-kind) ∙ ap (λ (b : Bool). not b || anyKind rest) (sym e ∙ f) in
+      λ i. lowest ((7, p i) ∷ (8, anyRegister os) ∷ [])
+
+-- with no operation left, the register numbers are
+pub sofar-all : {os : List Operation} {registers : Bool} → Sofar os registers [] → {b : Bool} → not registers ≡ b
+    → operationsRefusal os ≡ lowest ((7, false) ∷ (8, b) ∷ [])
 unfolding anyKind anyRegister operationsRefusal
-sofar-all {os} {kinds} {registers} h e f =
-    let p = sym (h .any-kind) ∙ or-false (not kinds) ∙ e in
+sofar-all {os} {registers} h f =
     let q = sym (h .any-register) ∙ or-false (not registers) ∙ f in
+    let p = sym (h .any-kind) in
     λ i. lowest ((7, p i) ∷ (8, q i) ∷ [])
 
 -- the refusal of a run, from the outcomes of the tests of its length

@@ -17,13 +17,9 @@ bankOf g b i = record { general = g; b = b; ib = i }
 abbrev pub Sized : List ℕ → List ℕ → List ℕ → Type 0
 Sized g b i = (length g ≡ 16) × (length b ≡ 3) × (length i ≡ 3)
 
--- control registers with x and y in the first two, if `two`
-abbrev pub withTwo : Bool → List ℕ → ℕ → ℕ → List ℕ
-withTwo two rs x y = cond two (set (set rs 0 x) 1 y) rs
-
--- and then with x in the third, if `third`
-abbrev pub loadedOf : Bool → Bool → List ℕ → ℕ → ℕ → List ℕ
-loadedOf two third rs x y = cond third (set (withTwo two rs x y) 2 x) (withTwo two rs x y)
+-- control registers with x and y in the first two at 1, with x in the third at 2
+abbrev pub loadedAt : ℕ → List ℕ → ℕ → ℕ → List ℕ
+loadedAt r rs x y = cond (eqb r 1) (set (set rs 0 x) 1 y) (cond (eqb r 2) (set rs 2 x) rs)
 
 -- The swaps of the inverse (true) or of the butterfly at control registers, and after them these registers: what a run keeps of a network that it has prepared
 abbrev pub keptOf : Bool → List ℕ → List ℕ

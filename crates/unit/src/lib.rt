@@ -1,6 +1,6 @@
 // The register unit (paper 01, 'The register unit'; demand 2): the bank of registers by value, one operation, a run with a budget of cycles.
 ghost use mathlib.Core.Path.{_≡_};
-ghost use Prim.Native.Nat.{_+_, _*_, _/_, _%_, _^_, _≤_, _<_};
+ghost use Prim.Native.Nat.{_+_, _-_, _*_, _/_, _%_, _^_, _≤_, _<_};
 ghost use mathlib.Core.Bool.{true, false, cond};
 ghost use mathlib.Core.List.{_++_, reverse};
 ghost use lib.Dec.{eqb};
@@ -9,7 +9,7 @@ ghost use Rattle.network.specs.Decoder.{decodeOf, decodeInverseOf};
 ghost use Rattle.network.specs.Stage.{butterflyOf, inverseOf};
 ghost use Rattle.network.specs.Word.{preparedOf};
 ghost use Rattle.unit.specs.Bank.{stagesOf, packedOf};
-ghost use Rattle.unit.specs.Lent.{Sized, bankOf, loadedOf, keptOf, isFor, Kept};
+ghost use Rattle.unit.specs.Lent.{Sized, bankOf, loadedAt, keptOf, isFor, Kept};
 ghost use Rattle.unit.specs.Calls.{operateOf, numberRefusal, readOf, writeOf};
 ghost use Rattle.unit.specs.Run.{operationAt, stepBy, operationsOf, ranOf, operationsRefusal, runRefusal, ranAt, outcomeOf, runOf};
 ghost use Rattle.unit.specs.Operation.{cyclesOf, isKind, usedOf, areRegisters, operationRefusal};
@@ -22,8 +22,8 @@ pub struct Bank {
     pub ib: [u64; 3],
 }
 
-// The table's figures, by kind.
-const CYCLES: [u32; 11] = [0, 1, 1, 1, 1, 1, 3, 3, 2, 2, 3];
+// The table's figures, by kind: a hexadecimal digit each, kind 0 at the right. (An array would be built anew at each look.)
+const CYCLES: u64 = 0x32233111110;
 
 // How a run ended, if it was carried out.
 const DONE: u8 = 1;
@@ -253,7 +253,7 @@ fn cycles_of(kind: u8) -> u32
     if 10 < kind {
         return 0;
     }
-    CYCLES[kind as usize]
+    ((CYCLES >> (4 * (kind as u64))) % 16) as u32
 }
 
 // Whether the kind is one of the table, and in kind 5 r1 one of its four.
@@ -263,7 +263,7 @@ fn is_kind(kind: u8, r1: u8) -> bool
     (1 <= kind) & (kind <= 10) & ((kind != 5) | (1 <= r1) & (r1 <= 4))
 }
 
-// Whether every register number in use is one of a general register. No branch here depends on the bytes: a run asks this of its whole list, many at a time.
+// Whether every register number in use is one of a general register. No branch depends on the bytes.
 fn are_registers(kind: u8, r1: u8, r2: u8, r3: u8) -> bool
     ensures { λ r. ⌜ r ≡ areRegisters (usedOf kind r1 r2 r3) ⌝ }
 {
@@ -286,33 +286,33 @@ fn operation_refusal(kind: u8, r1: u8, r2: u8, r3: u8) -> u8
     bits::CARRIED_OUT
 }
 
-// One of two words.
-fn pick(chosen: bool, a: u64, b: u64) -> u64
-    ensures { λ r. ⌜ r ≡ cond chosen a b ⌝ }
+// internal: three control registers, and 1 or 0. x and y into the first two, or x into the third: two stores, and no branch depends on which.
+fn load_into(registers: &mut [u64; 3], odd: u64, x: u64, y: u64)
+    requires { ⌜ (length (now registers) ≡ 3) × (odd < 2) ⌝ }
+    ensures { λ r. ⌜ now (registers .exit) ≡ loadedAt (2 - odd) (now (registers .entry)) x y ⌝ }
 {
-    if chosen {
-        return a;
-    }
-    b
-}
-
-// internal: three control registers. x and y into the first two, if `two`, and x into the third, if `third`.
-fn load_some(registers: &mut [u64; 3], two: bool, third: bool, x: u64, y: u64)
-    requires { ⌜ length (now registers) ≡ 3 ⌝ }
-    ensures { λ r. ⌜ now (registers .exit) ≡ loadedOf two third (now (registers .entry)) x y ⌝ }
-{
-    registers[0] = pick(two, x, registers[0]);
-    registers[1] = pick(two, y, registers[1]);
-    registers[2] = pick(third, x, registers[2]);
+    let last = x ^ ((x ^ y) & (odd * 0xFFFFFFFFFFFFFFFF));
+    registers[(2 - 2 * odd) as usize] = x;
+    registers[(2 - odd) as usize] = last;
 }
 
 // internal: three control registers each. Kind 5: words x and y, of registers r2 and r3, into control registers.
 fn load(b: &mut [u64; 3], ib: &mut [u64; 3], r1: u8, x: u64, y: u64)
     requires { ⌜ (length (now b) ≡ 3) × (length (now ib) ≡ 3) ⌝ }
-    ensures { λ r. ⌜ (now (b .exit) ≡ loadedOf (eqb r1 1) (eqb r1 2) (now (b .entry)) x y) × (now (ib .exit) ≡ loadedOf (eqb r1 3) (eqb r1 4) (now (ib .entry)) x y) ⌝ }
+    ensures { λ r. ⌜ (now (b .exit) ≡ loadedAt r1 (now (b .entry)) x y) × (now (ib .exit) ≡ loadedAt (r1 - 2) (now (ib .entry)) x y) ⌝ }
 {
-    load_some(b, r1 == 1, r1 == 2, x, y);
-    load_some(ib, r1 == 3, r1 == 4, x, y);
+    if r1 == 0 {
+        return;
+    }
+    if 4 < r1 {
+        return;
+    }
+    let odd = (r1 % 2) as u64;
+    if r1 <= 2 {
+        load_into(b, odd, x, y);
+        return;
+    }
+    load_into(ib, odd, x, y);
 }
 
 // internal: the registers of a bank, what is kept of both networks, and an operation at byte `at`. The table of paper 01: the registers after it, if it is
@@ -438,16 +438,14 @@ fn operations_refusal(ops: &[u8]) -> u8
     requires { ⌜ length (now ops) % 4 ≡ 0 ⌝ }
     ensures { λ r. ⌜ r ≡ operationsRefusal (operationsOf (now (ops .entry))) ⌝ }
 {
-    let mut kinds = true;
     let mut registers = true;
     let mut at: usize = 0;
     while at < ops.len() {
-        kinds = kinds & is_kind(ops[at], ops[at + 1]);
+        if !is_kind(ops[at], ops[at + 1]) {
+            return bits::KIND;
+        }
         registers = registers & are_registers(ops[at], ops[at + 1], ops[at + 2], ops[at + 3]);
         at += 4;
-    }
-    if !kinds {
-        return bits::KIND;
     }
     if !registers {
         return bits::REGISTER;
