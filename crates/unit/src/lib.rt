@@ -348,7 +348,7 @@ fn step(
     }
 }
 
-// One operation on the bank: its cycles, or the lowest refusal and the bank as it was.
+// One operation on the bank: its cycles, or the lowest refusal and the bank as it was. It is carried out as a run of its own cycles.
 pub fn operate(bank: Bank, kind: u8, r1: u8, r2: u8, r3: u8) -> Operated
     ensures { λ r. ⌜ r ≡ operateOf bank kind r1 r2 r3 ⌝ }
 {
@@ -366,22 +366,10 @@ pub fn operate(bank: Bank, kind: u8, r1: u8, r2: u8, r3: u8) -> Operated
     let mut b = bank.b;
     let mut ib = bank.ib;
     let bytes = [kind, r1, r2, r3];
-    let mut falling = kept_for(false, [0u64; 3]);
-    let mut rising = kept_for(true, [0u64; 3]);
-    step(
-        &mut general,
-        &mut b,
-        &mut ib,
-        &mut falling,
-        &mut rising,
-        &bytes,
-        0,
-    );
+    let cycles = cycles_of(kind);
+    carry_out(&mut general, &mut b, &mut ib, &bytes, cycles);
     Operated {
-        answer: Cycles {
-            refusal: 0,
-            cycles: cycles_of(kind),
-        },
+        answer: Cycles { refusal: 0, cycles },
         bank: Bank { general, b, ib },
     }
 }
