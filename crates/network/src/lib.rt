@@ -253,14 +253,14 @@ fn network_refusal(width: u32, stages: [u32; 6], word: u64) -> u8
 }
 
 // internal: the word through the butterfly at width 64, where every control bit is used and every word fits
-pub fn butterfly_64(stages: [u32; 6], word: u64) -> u64
+fn butterfly_64(stages: [u32; 6], word: u64) -> u64
     ensures { λ r. ⌜ r ≡ butterflyOf 6 stages word ⌝ }
 {
     butterfly_prepared(prepare(stages), word)
 }
 
 // internal: the word through the inverse at width 64
-pub fn inverse_64(stages: [u32; 6], word: u64) -> u64
+fn inverse_64(stages: [u32; 6], word: u64) -> u64
     ensures { λ r. ⌜ r ≡ inverseOf 6 stages word ⌝ }
 {
     inverse_prepared(prepare(reversed(6, stages)), word)

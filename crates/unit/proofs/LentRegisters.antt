@@ -3,11 +3,11 @@ use mathlib.Core.Path.{_≡_, refl, sym, _∙_, ap, ap₂, subst⁻¹}
 use mathlib.Core.Bool.{Bool, true, false, cond}
 use mathlib.Core.List.{List, [], _∷_}
 use mathlib.Core.Logic.{_⊎_, inl, inr}
-use Prim.Native.Nat.{ℕ, _-_, _*_, _^_, _<_}
+use Prim.Native.Nat.{ℕ, _-_, _*_, _^_, _<_, _≤_}
 use native.Mathlib.Omega.{arith}
 use native.Mathlib.Nat.{mod-eq-of-lt}
 use lib.Bits.{bitAnd, bitXor, and-mask, and-zero-r, xor-zero-r, xor-lt}
-use lib.Dec.{eqb}
+use lib.Dec.{eqb, leb}
 use lib.ListN.{length, getD, set, length-set}
 use lib.Seq.{set-set}
 use borrow.Author.Tests.{ne-eqb}
@@ -20,7 +20,7 @@ use Rattle.unit.specs.Bank.{withRegister, stagesOf, packedOf}
 use Rattle.unit.specs.Operation.{loads, loadOf, effects, effectOf, stepOf}
 use Rattle.unit.specs.Run.{Operation, stepBy}
 use Rattle.unit.specs.Lent.{bankOf, Sized, loadedAt}
-use Rattle.unit.proofs.Tables.{by-entry}
+use Rattle.unit.proofs.Tables.{by-entry, entry-other}
 
 -- kind 5, by the code's steps: of two stores the second is y, or x again
 module _ (rs : List ℕ) (x y : ℕ) (hx : x < 2 ^ 64) (hy : y < 2 ^ 64) where
@@ -61,6 +61,18 @@ load-is g b i r1 x y =
     let four : r1 - 2 ≡ 2 → ⊥ = λ e. n .1 .1 .1 .0 (omega arith) in
     ap₂ (bankOf g) (loaded-none b x y (n .0) (n .1 .0)) (loaded-none i x y three four))
 
+and-ones : (u : ℕ) → u < 2 ^ 64 → bitAnd u (2 ^ 64 - 1) ≡ u
+and-ones u l = and-mask u 64 ∙ mod-eq-of-lt l
+
+-- at any other kind the table has no row
+pub row-none : (k : Bank) (kind r1 x y : ℕ) → (kind ≡ 0) ⊎ (10 < kind) → k ≡ effectOf k kind r1 x y
+unfolding effectOf
+row-none k kind r1 x y n = entry-other kind (effects k r1 x y) k (((((((((((tt, none n 1 (omega arith) (omega arith)), none n 2 (omega arith) (omega arith)), none n 3 (omega arith) (omega arith)), none n 4 (omega arith) (omega arith)), none n 5 (omega arith) (omega arith)), none n 6 (omega arith) (omega arith)), none n 7 (omega arith) (omega arith)), none n 8 (omega arith) (omega arith)), none n 9 (omega arith) (omega arith)), none n 10 (omega arith) (omega arith)))
+  where
+    none : (kind ≡ 0) ⊎ (10 < kind) → (j : ℕ) → 0 < j → j ≤ 10 → kind ≡ j → ⊥
+    none (inl e) j l h q = omega arith
+    none (inr e) j l h q = omega arith
+
 -- The table's rows, by the steps of the code: the operands as they were read, and what was computed of them
 module _ (k : Bank) (r1 : ℕ) {x y x′ y′ : ℕ} (p : x′ ≡ x) (q : y′ ≡ y) where
   at-kind : (n : ℕ) {kind : ℕ} → kind ≡ n → {j : Bank} → j ≡ effectOf k n r1 x y → j ≡ effectOf k kind r1 x y
@@ -70,21 +82,32 @@ module _ (k : Bank) (r1 : ℕ) {x y x′ y′ : ℕ} (p : x′ ≡ x) (q : y′ 
   put : (f : ℕ → ℕ → ℕ) {v : ℕ} → v ≡ f x′ y′ → {g : List ℕ} → g ≡ set (k .general) r1 v → bankOf g (k .b) (k .ib) ≡ withRegister k r1 (f x y)
   put f h s = ap (λ (g : List ℕ). bankOf g (k .b) (k .ib)) (s ∙ ap (set (k .general) r1) (h ∙ ap₂ f p q))
 
-  pub row-1 : {kind : ℕ} → kind ≡ 1 → {v : ℕ} → v ≡ butterflyOf 6 (stagesOf (k .b)) x′ → {g : List ℕ} → g ≡ set (k .general) r1 v → bankOf g (k .b) (k .ib) ≡ effectOf k kind r1 x y
+  row-1 : {kind : ℕ} → kind ≡ 1 → {v : ℕ} → v ≡ butterflyOf 6 (stagesOf (k .b)) x′ → {g : List ℕ} → g ≡ set (k .general) r1 v → bankOf g (k .b) (k .ib) ≡ effectOf k kind r1 x y
   unfolding effectOf
   row-1 e h s = at-kind 1 e (put (λ a b. butterflyOf 6 (stagesOf (k .b)) a) h s)
 
-  pub row-2 : {kind : ℕ} → kind ≡ 2 → {v : ℕ} → v ≡ inverseOf 6 (stagesOf (k .ib)) x′ → {g : List ℕ} → g ≡ set (k .general) r1 v → bankOf g (k .b) (k .ib) ≡ effectOf k kind r1 x y
+  row-2 : {kind : ℕ} → kind ≡ 2 → {v : ℕ} → v ≡ inverseOf 6 (stagesOf (k .ib)) x′ → {g : List ℕ} → g ≡ set (k .general) r1 v → bankOf g (k .b) (k .ib) ≡ effectOf k kind r1 x y
   unfolding effectOf
   row-2 e h s = at-kind 2 e (put (λ a b. inverseOf 6 (stagesOf (k .ib)) a) h s)
 
-  pub row-3 : {kind : ℕ} → kind ≡ 3 → {v : ℕ} → v ≡ inverseOf 6 (stagesOf (k .ib)) (bitAnd x′ y′) → {g : List ℕ} → g ≡ set (k .general) r1 v → bankOf g (k .b) (k .ib) ≡ effectOf k kind r1 x y
+  row-3 : {kind : ℕ} → kind ≡ 3 → {v : ℕ} → v ≡ inverseOf 6 (stagesOf (k .ib)) (bitAnd x′ y′) → {g : List ℕ} → g ≡ set (k .general) r1 v → bankOf g (k .b) (k .ib) ≡ effectOf k kind r1 x y
   unfolding effectOf
   row-3 e h s = at-kind 3 e (put (λ a b. inverseOf 6 (stagesOf (k .ib)) (bitAnd a b)) h s)
 
-  pub row-4 : {kind : ℕ} → kind ≡ 4 → {v : ℕ} → v ≡ bitAnd (butterflyOf 6 (stagesOf (k .b)) x′) y′ → {g : List ℕ} → g ≡ set (k .general) r1 v → bankOf g (k .b) (k .ib) ≡ effectOf k kind r1 x y
+  row-4 : {kind : ℕ} → kind ≡ 4 → {v : ℕ} → v ≡ bitAnd (butterflyOf 6 (stagesOf (k .b)) x′) y′ → {g : List ℕ} → g ≡ set (k .general) r1 v → bankOf g (k .b) (k .ib) ≡ effectOf k kind r1 x y
   unfolding effectOf
   row-4 e h s = at-kind 4 e (put (λ a b. bitAnd (butterflyOf 6 (stagesOf (k .b)) a) b) h s)
+
+  -- kinds 1 and 4, and 2 and 3, by one mask: kinds 1 and 2 mask nothing
+  pub row-1-4 : {kind : ℕ} → (kind ≡ 1) ⊎ (kind ≡ 4) → {u : ℕ} → u ≡ butterflyOf 6 (stagesOf (k .b)) x′ → u < 2 ^ 64 → {w : ℕ} → w ≡ cond (leb kind 2) (2 ^ 64 - 1) y′
+      → {g : List ℕ} → g ≡ set (k .general) r1 (bitAnd u w) → bankOf g (k .b) (k .ib) ≡ effectOf k kind r1 x y
+  row-1-4 (inl e) {u} h l {w} m s = row-1 e (ap (bitAnd u) (m ∙ rw e) ∙ and-ones u l ∙ h) s
+  row-1-4 (inr e) {u} h l {w} m s = row-4 e (ap₂ bitAnd h (m ∙ rw e)) s
+
+  pub row-2-3 : {kind : ℕ} → (kind ≡ 2) ⊎ (kind ≡ 3) → x′ < 2 ^ 64 → {w : ℕ} → w ≡ cond (leb kind 2) (2 ^ 64 - 1) y′ → {v : ℕ} → v ≡ inverseOf 6 (stagesOf (k .ib)) (bitAnd x′ w)
+      → {g : List ℕ} → g ≡ set (k .general) r1 v → bankOf g (k .b) (k .ib) ≡ effectOf k kind r1 x y
+  row-2-3 (inl e) l m h s = row-2 e (h ∙ ap (inverseOf 6 (stagesOf (k .ib))) (ap (bitAnd x′) (m ∙ rw e) ∙ and-ones x′ l)) s
+  row-2-3 (inr e) l m h s = row-3 e (h ∙ ap (λ (w : ℕ). inverseOf 6 (stagesOf (k .ib)) (bitAnd x′ w)) (m ∙ rw e)) s
 
   pub row-6 : {kind : ℕ} → kind ≡ 6 → {v : ℕ} → v ≡ gatherOf 64 y′ x′ → {g : List ℕ} → g ≡ set (k .general) r1 v → bankOf g (k .b) (k .ib) ≡ effectOf k kind r1 x y
   unfolding effectOf

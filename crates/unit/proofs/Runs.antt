@@ -19,11 +19,6 @@ module _ (left : ℕ) (o : Operation) (os : List Operation) where
   unfolding ranOf
   ran-stops h = ap (λ (b : Bool). cond b (suc (ranOf (left - cyclesOf (o .0)) os)) 0) (lt-leb (cyclesOf (o .0)) left h)
 
--- one operation, within its own cycles
-pub one-run : (k : Bank) (o : Operation) {left : ℕ} → left ≡ cyclesOf (o .0) → outcomeOf k (o ∷ []) (ranOf left (o ∷ [])) .bank ≡ stepBy k o
-unfolding ranOf stepsOf
-one-run k o {left} e = ap (λ (n : ℕ). stepsOf k (take n (o ∷ []))) (ran-fits left o [] (omega arith))
-
 -- After n operations of a run on k by os, with `rest` still to come: the bank is j and `left` is left of the budget, and to go on from there comes to the whole run.
 pub record Going (k : Bank) (os : List Operation) (budget : ℕ) (j : Bank) (left n : ℕ) (rest : List Operation) : Type 0 where
   pub within : left ≤ budget

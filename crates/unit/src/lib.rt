@@ -4,6 +4,8 @@ ghost use Prim.Native.Nat.{_+_, _-_, _*_, _/_, _%_, _^_, _≤_, _<_};
 ghost use mathlib.Core.Bool.{true, false, cond};
 ghost use mathlib.Core.List.{_++_, reverse};
 ghost use lib.Dec.{eqb};
+ghost use mathlib.Core.Bool.{cond};
+ghost use lib.Dec.{leb};
 ghost use lib.ListN.{length, getD, set, take};
 ghost use Rattle.network.specs.Decoder.{decodeOf, decodeInverseOf};
 ghost use Rattle.network.specs.Stage.{butterflyOf, inverseOf};
@@ -315,6 +317,16 @@ fn load(b: &mut [u64; 3], ib: &mut [u64; 3], r1: u8, x: u64, y: u64)
     load_into(ib, odd, x, y);
 }
 
+// The mask of kinds 3 and 4, which is y; kinds 1 and 2 mask nothing.
+fn mask_of(kind: u8, y: u64) -> u64
+    ensures { λ r. ⌜ r ≡ cond (leb kind 2) (2 ^ 64 - 1) y ⌝ }
+{
+    if kind <= 2 {
+        return 0xFFFFFFFFFFFFFFFF;
+    }
+    y
+}
+
 // internal: the registers of a bank, what is kept of both networks, and an operation at byte `at`. The table of paper 01: the registers after it, if it is
 // accepted. Both operands are read before the result is written.
 fn step(
@@ -330,14 +342,13 @@ fn step(
     ensures { λ r. ⌜ (bankOf (now (general .exit)) (now (b .exit)) (now (ib .exit)) ≡ stepBy (bankOf (now (general .entry)) (now (b .entry)) (now (ib .entry))) (operationAt (now (ops .entry)) at))
         × Kept false (now (falling .exit)) × Kept true (now (rising .exit)) ⌝ }
 {
+    let kind = ops[at];
     let r1 = ops[at + 1];
     let y = general_at(general, ops[at + 3]);
     let x = general_at(general, ops[at + 2]);
-    match ops[at] {
-        1 => put(general, r1, butterfly_at(falling, b, x)),
-        2 => put(general, r1, inverse_at(rising, ib, x)),
-        3 => put(general, r1, inverse_at(rising, ib, x & y)),
-        4 => put(general, r1, butterfly_at(falling, b, x) & y),
+    match kind {
+        1 | 4 => put(general, r1, butterfly_at(falling, b, x) & mask_of(kind, y)),
+        2 | 3 => put(general, r1, inverse_at(rising, ib, x & mask_of(kind, y))),
         5 => load(b, ib, r1, x, y),
         6 => put(general, r1, gather::gather_64(y, x)),
         7 => put(general, r1, gather::scatter_64(y, x)),
@@ -348,7 +359,7 @@ fn step(
     }
 }
 
-// One operation on the bank: its cycles, or the lowest refusal and the bank as it was. It is carried out as a run of its own cycles.
+// One operation on the bank: its cycles, or the lowest refusal and the bank as it was.
 pub fn operate(bank: Bank, kind: u8, r1: u8, r2: u8, r3: u8) -> Operated
     ensures { λ r. ⌜ r ≡ operateOf bank kind r1 r2 r3 ⌝ }
 {
@@ -366,10 +377,22 @@ pub fn operate(bank: Bank, kind: u8, r1: u8, r2: u8, r3: u8) -> Operated
     let mut b = bank.b;
     let mut ib = bank.ib;
     let bytes = [kind, r1, r2, r3];
-    let cycles = cycles_of(kind);
-    carry_out(&mut general, &mut b, &mut ib, &bytes, cycles);
+    let mut falling = kept_for(false, [0u64; 3]);
+    let mut rising = kept_for(true, [0u64; 3]);
+    step(
+        &mut general,
+        &mut b,
+        &mut ib,
+        &mut falling,
+        &mut rising,
+        &bytes,
+        0,
+    );
     Operated {
-        answer: Cycles { refusal: 0, cycles },
+        answer: Cycles {
+            refusal: 0,
+            cycles: cycles_of(kind),
+        },
         bank: Bank { general, b, ib },
     }
 }

@@ -1,29 +1,49 @@
--- `unit::operate` meets its contract: a run of one operation within its own cycles. Assumes nothing.
-use mathlib.Core.Path.{_∙_, ap}
+-- `unit::operate` meets its contract. Assumes nothing.
+use mathlib.Core.Path.{refl, ap}
 use mathlib.Core.Bool.{true, false}
 use borrow.Author.Needs.{needs}
 use borrow.Author.Tests.{eq-eqb, ne-eqb}
-use Rattle.unit.specs.declared.Ran.{Ran}
+use lib.ListN.{replicate}
 use Rattle.unit.specs.Calls.{operated, operateOf}
-use Rattle.unit.specs.Run.{operationsOf}
-use Rattle.unit.proofs.Runs.{one-run}
+use Rattle.unit.specs.Lent.{Sized}
+use Rattle.unit.proofs.KeptNetworks.{kept-is}
 use Rattle.unit.proofs.operate.Statement.{statement}
 use Rattle.unit.proofs.operate.Tie as tie
+
+operation-refusal-requires : tie.Need-operation-refusal-requires
+operation-refusal-requires c κs = search needs
 
 returns : tie.Need-returns
 unfolding operateOf
 returns c = rw (← c .before .operation-refusal .ensures, ne-eqb _ _ (c .if1 .taken))
 
+kept-for-requires : tie.Need-kept-for-requires
+kept-for-requires c κs = search needs
+
+kept-for-requires-2 : tie.Need-kept-for-requires-2
+kept-for-requires-2 c κs = search needs
+
+slice-aggregate-step : tie.Need-slice-aggregate-step
+slice-aggregate-step c = search needs
+
+sized : (c : tie.After-ib) → let k = c .before .before .before .before .before .args .bank in Sized (k .general) (k .b) (k .ib)
+sized c = (search needs, search needs, search needs)
+
+step-requires : tie.Need-step-requires
+step-requires c κs =
+    let k = c .before .before .before .before .before .before in
+    (sized (k .before .before), kept-is (replicate 3 0) refl false (k .before .kept-for .ensures), kept-is (replicate 3 0) refl true (k .kept-for2 .ensures), search needs)
+
+cycles-of-requires : tie.Need-cycles-of-requires
+cycles-of-requires c κs = search needs
+
 returns-2 : tie.Need-returns-2
-unfolding operateOf operationsOf
+unfolding operateOf
 returns-2 c =
-    let e = c .before .before .before .before .before in
-    let l = e .before .before .before .before in
-    let a = l .before .before .args in
-    let after = ap (λ (r : Ran). r .bank) (c .carry-out .ensures) ∙ one-run (a .bank) (a .kind, a .r1, a .r2, a .r3) (e .cycles-of .ensures) in
-    rw (← l .before .operation-refusal .ensures, eq-eqb _ _ (l .if1 .left), e .cycles-of .ensures) (ap (operated _) after)
+    let b = c .before .before .before .before .before .before .before .before .before .before .before .before .before in
+    rw (← b .before .operation-refusal .ensures, eq-eqb _ _ (b .if1 .left), c .cycles-of .ensures) (ap (operated _) (c .before .step .ensures .0))
 
 pub operate-spec : {M : Type 1} → statement M
 operate-spec =
     tie.close
-    (tie.spec (λ c κs. search needs) returns (λ c κs. search needs) (λ c. search needs) (λ c κs. search needs) returns-2)
+    (tie.spec operation-refusal-requires returns kept-for-requires kept-for-requires-2 slice-aggregate-step step-requires cycles-of-requires returns-2)
