@@ -15,38 +15,38 @@ use Rattle.gather.specs.declared.Levels.{Levels}
 use Rattle.gather.specs.Parts.{inParts, levelsOf, countsOf, gapsOf, gatherParts, scatterParts, down, up}
 use Rattle.gather.proofs.Parts.{Small, everyPart, parts-ext, parts-and, parts-first, parts-second}
 use Rattle.gather.proofs.Counting.{lowerOf, lower-by, gaps-by, counts-bits}
-use Rattle.gather.proofs.Moving.{Moves, every, downs, ups, downAll, upAll, inside, joinsAt, joins, splitsAt, splits, gather-level, scatter-level, up-lt}
+use Rattle.gather.proofs.Moving.{Shifts, every, downs, ups, downAll, upAll, inside, joinsAt, joins, splitsAt, splits, gather-level, scatter-level, up-lt}
 
 -- the moves of a level: the distance, and the factor that makes of it the places that move
-abbrev moves1 : Moves
-moves1 = (1, 2) ∷ []
+abbrev shifts1 : Shifts
+shifts1 = (1, 2) ∷ []
 
-abbrev moves2 : Moves
-moves2 = (1, 12) ∷ (2, 6) ∷ []
+abbrev shifts2 : Shifts
+shifts2 = (1, 12) ∷ (2, 6) ∷ []
 
-abbrev moves4 : Moves
-moves4 = (1, 240) ∷ (2, 124) ∷ (4, 60) ∷ []
+abbrev shifts4 : Shifts
+shifts4 = (1, 240) ∷ (2, 124) ∷ (4, 60) ∷ []
 
 -- at each level they join and split every part
-abbrev Settles : ℕ → Moves → Type 0
+abbrev Settles : ℕ → Shifts → Type 0
 Settles s ps = (joins s ps && splits s ps) ≡ true
 
-level1 : Settles 1 moves1
+level1 : Settles 1 shifts1
 unfolding joins joinsAt splits splitsAt every inside downs ups
 level1 = refl
 
-level2 : Settles 2 moves2
+level2 : Settles 2 shifts2
 unfolding joins joinsAt splits splitsAt every inside downs ups
 level2 = refl
 
-level4 : Settles 4 moves4
+level4 : Settles 4 shifts4
 unfolding joins joinsAt splits splitsAt every inside downs ups
 level4 = refl
 
-gathers : (s n : ℕ) (ps : Moves) → Settles s ps → (m x : ℕ) → downAll (s + s) n ps (gapsOf s n m) (gatherParts s (n + n) m x) ≡ gatherParts (s + s) n m x
+gathers : (s n : ℕ) (ps : Shifts) → Settles s ps → (m x : ℕ) → downAll (s + s) n ps (gapsOf s n m) (gatherParts s (n + n) m x) ≡ gatherParts (s + s) n m x
 gathers s n ps t = gather-level s n ps (both (joins s ps) (splits s ps) t .0)
 
-module _ (s n : ℕ) (ps : Moves) (t : Settles s ps) (e : (s + s) * n ≡ 64) (m : ℕ) {y : ℕ} (l : y < 2 ^ 64) where
+module _ (s n : ℕ) (ps : Shifts) (t : Settles s ps) (e : (s + s) * n ≡ 64) (m : ℕ) {y : ℕ} (l : y < 2 ^ 64) where
   scatters : scatterParts s (n + n) m (upAll (s + s) n ps (gapsOf s n m) y) ≡ scatterParts (s + s) n m y
   scatters = scatter-level s ps (both (joins s ps) (splits s ps) t .1) n e m l
 
@@ -74,29 +74,29 @@ module _ {m x : ℕ} (l : m < 2 ^ 64) (h : x < 2 ^ 64) where
 
 -- the code's constants are a number in every part, and its moves those of the lists
 
-down1 : (g y : ℕ) → down 1 (bitAnd g 0x5555555555555555 * 2) y ≡ downAll 2 32 moves1 g y
+down1 : (g y : ℕ) → down 1 (bitAnd g 0x5555555555555555 * 2) y ≡ downAll 2 32 shifts1 g y
 unfolding downAll everyPart inParts
 down1 g y = refl
 
-down2 : (g y : ℕ) → down 2 (bitAnd g 0x2222222222222222 * 6) (down 1 (bitAnd g 0x1111111111111111 * 12) y) ≡ downAll 4 16 moves2 g y
+down2 : (g y : ℕ) → down 2 (bitAnd g 0x2222222222222222 * 6) (down 1 (bitAnd g 0x1111111111111111 * 12) y) ≡ downAll 4 16 shifts2 g y
 unfolding downAll everyPart inParts
 down2 g y = refl
 
 down4 : (g y : ℕ)
-    → down 4 (bitAnd g 0x0404040404040404 * 60) (down 2 (bitAnd g 0x0202020202020202 * 124) (down 1 (bitAnd g 0x0101010101010101 * 240) y)) ≡ downAll 8 8 moves4 g y
+    → down 4 (bitAnd g 0x0404040404040404 * 60) (down 2 (bitAnd g 0x0202020202020202 * 124) (down 1 (bitAnd g 0x0101010101010101 * 240) y)) ≡ downAll 8 8 shifts4 g y
 unfolding downAll everyPart inParts
 down4 g y = refl
 
-up1 : (g y : ℕ) → up 1 (bitAnd g 0x5555555555555555 * 2) y ≡ upAll 2 32 moves1 g y
+up1 : (g y : ℕ) → up 1 (bitAnd g 0x5555555555555555 * 2) y ≡ upAll 2 32 shifts1 g y
 unfolding upAll everyPart inParts
 up1 g y = refl
 
-up2 : (g y : ℕ) → up 1 (bitAnd g 0x1111111111111111 * 12) (up 2 (bitAnd g 0x2222222222222222 * 6) y) ≡ upAll 4 16 moves2 g y
+up2 : (g y : ℕ) → up 1 (bitAnd g 0x1111111111111111 * 12) (up 2 (bitAnd g 0x2222222222222222 * 6) y) ≡ upAll 4 16 shifts2 g y
 unfolding upAll everyPart inParts
 up2 g y = refl
 
 up4 : (g y : ℕ)
-    → up 1 (bitAnd g 0x0101010101010101 * 240) (up 2 (bitAnd g 0x0202020202020202 * 124) (up 4 (bitAnd g 0x0404040404040404 * 60) y)) ≡ upAll 8 8 moves4 g y
+    → up 1 (bitAnd g 0x0101010101010101 * 240) (up 2 (bitAnd g 0x0202020202020202 * 124) (up 4 (bitAnd g 0x0404040404040404 * 60) y)) ≡ upAll 8 8 shifts4 g y
 unfolding upAll everyPart inParts
 up4 g y = refl
 
@@ -136,9 +136,9 @@ module _ (m x : ℕ) (l : m < 2 ^ 64) (h : x < 2 ^ 64) {ls : Levels} (e : ls ≡
       → y6 ≡ down 4 (bitAnd (ls .gaps4) 0x0404040404040404 * 60) y5 → y6 ≡ gatherParts 8 8 m x
   unfolding levelsOf
   gather-bytes {y1} {y2} {y3} {y4} {y5} {y6} e1 e2 e3 e4 e5 e6 =
-      let twos : y1 ≡ gatherParts 2 32 m x = rw (e1, e) (down1 _ _ ∙ ap (downAll 2 32 moves1 (gapsOf 1 32 m)) (gather-bits l h) ∙ gathers 1 32 moves1 level1 m x) in
-      let fours : y3 ≡ gatherParts 4 16 m x = rw (e3, e2, twos, e) (down2 _ _ ∙ gathers 2 16 moves2 level2 m x) in
-      rw (e6, e5, e4, fours, e) (down4 _ _ ∙ gathers 4 8 moves4 level4 m x)
+      let twos : y1 ≡ gatherParts 2 32 m x = rw (e1, e) (down1 _ _ ∙ ap (downAll 2 32 shifts1 (gapsOf 1 32 m)) (gather-bits l h) ∙ gathers 1 32 shifts1 level1 m x) in
+      let fours : y3 ≡ gatherParts 4 16 m x = rw (e3, e2, twos, e) (down2 _ _ ∙ gathers 2 16 shifts2 level2 m x) in
+      rw (e6, e5, e4, fours, e) (down4 _ _ ∙ gathers 4 8 shifts4 level4 m x)
 
   pub scatter-bytes : {y1 y2 y3 y4 y5 y6 : ℕ} → y1 ≡ up 4 (bitAnd (ls .gaps4) 0x0404040404040404 * 60) x
       → y2 ≡ up 2 (bitAnd (ls .gaps4) 0x0202020202020202 * 124) y1 → y3 ≡ up 1 (bitAnd (ls .gaps4) 0x0101010101010101 * 240) y2
@@ -146,13 +146,13 @@ module _ (m x : ℕ) (l : m < 2 ^ 64) (h : x < 2 ^ 64) {ls : Levels} (e : ls ≡
       → y6 ≡ up 1 (bitAnd (ls .gaps1) 0x5555555555555555 * 2) y5 → bitAnd y6 m ≡ scatterParts 8 8 m x
   unfolding levelsOf
   scatter-bytes {y1} {y2} {y3} {y4} {y5} {y6} e1 e2 e3 e4 e5 e6 =
-      let eight : y3 ≡ upAll 8 8 moves4 (gapsOf 4 8 m) x = rw (e3, e2, e1, e) (up4 _ _) in
-      let four : y5 ≡ upAll 4 16 moves2 (gapsOf 2 16 m) y3 = rw (e5, e4, e) (up2 _ _) in
-      let two : y6 ≡ upAll 2 32 moves1 (gapsOf 1 32 m) y5 = rw (e6, e) (up1 _ _) in
-      let l3 : y3 < 2 ^ 64 = rw eight (ups-lt 4 8 moves4 level4 refl m h) in
-      let l5 : y5 < 2 ^ 64 = rw four (ups-lt 2 16 moves2 level2 refl m l3) in
-      let l6 : y6 < 2 ^ 64 = rw two (ups-lt 1 32 moves1 level1 refl m l5) in
+      let eight : y3 ≡ upAll 8 8 shifts4 (gapsOf 4 8 m) x = rw (e3, e2, e1, e) (up4 _ _) in
+      let four : y5 ≡ upAll 4 16 shifts2 (gapsOf 2 16 m) y3 = rw (e5, e4, e) (up2 _ _) in
+      let two : y6 ≡ upAll 2 32 shifts1 (gapsOf 1 32 m) y5 = rw (e6, e) (up1 _ _) in
+      let l3 : y3 < 2 ^ 64 = rw eight (ups-lt 4 8 shifts4 level4 refl m h) in
+      let l5 : y5 < 2 ^ 64 = rw four (ups-lt 2 16 shifts2 level2 refl m l3) in
+      let l6 : y6 < 2 ^ 64 = rw two (ups-lt 1 32 shifts1 level1 refl m l5) in
       scatter-bits l l6
-      ∙ ap (scatterParts 1 64 m) two ∙ scatters 1 32 moves1 level1 refl m l5
-      ∙ ap (scatterParts 2 32 m) four ∙ scatters 2 16 moves2 level2 refl m l3
-      ∙ ap (scatterParts 4 16 m) eight ∙ scatters 4 8 moves4 level4 refl m h
+      ∙ ap (scatterParts 1 64 m) two ∙ scatters 1 32 shifts1 level1 refl m l5
+      ∙ ap (scatterParts 2 32 m) four ∙ scatters 2 16 shifts2 level2 refl m l3
+      ∙ ap (scatterParts 4 16 m) eight ∙ scatters 4 8 shifts4 level4 refl m h

@@ -38,12 +38,12 @@ every-at (suc n) p e i l = by-cases (decLt i n) (both (p n) (every n p) e) (ever
 
 -- A move is a distance, one of the powers of two in the gaps, and a factor that makes of it the places that move.
 
-abbrev pub Moves : Type 0
-Moves = List (ℕ × ℕ)
+abbrev pub Shifts : Type 0
+Shifts = List (ℕ × ℕ)
 
 -- the moves inside one part with gaps g: down from the first, up from the last
 
-unfoldable pub downs : Moves → ℕ → ℕ → ℕ
+unfoldable pub downs : Shifts → ℕ → ℕ → ℕ
 downs [] g v = v
 downs (p ∷ ps) g v = downs ps g (down (p .0) (bitAnd g (p .0) * p .1) v)
 
@@ -51,21 +51,21 @@ downs (p ∷ ps) g v = downs ps g (down (p .0) (bitAnd g (p .0) * p .1) v)
 abbrev upIn : ℕ → ℕ → ℕ → ℕ
 upIn d w v = bitXor v (bitXor (bitAnd v w) (bitAnd v (w / 2 ^ d) * 2 ^ d))
 
-unfoldable pub ups : Moves → ℕ → ℕ → ℕ
+unfoldable pub ups : Shifts → ℕ → ℕ → ℕ
 ups [] g v = v
 ups (p ∷ ps) g v = upIn (p .0) (bitAnd g (p .0) * p .1) (ups ps g v)
 
 -- the same on a word of n parts of k bits
-unfoldable pub downAll : ℕ → ℕ → Moves → ℕ → ℕ → ℕ
+unfoldable pub downAll : ℕ → ℕ → Shifts → ℕ → ℕ → ℕ
 downAll k n [] g y = y
 downAll k n (p ∷ ps) g y = downAll k n ps g (down (p .0) (bitAnd g (everyPart k n (p .0)) * p .1) y)
 
-unfoldable pub upAll : ℕ → ℕ → Moves → ℕ → ℕ → ℕ
+unfoldable pub upAll : ℕ → ℕ → Shifts → ℕ → ℕ → ℕ
 upAll k n [] g y = y
 upAll k n (p ∷ ps) g y = up (p .0) (bitAnd g (everyPart k n (p .0)) * p .1) (upAll k n ps g y)
 
 -- no move of a part with gaps g leaves the part
-unfoldable pub inside : ℕ → Moves → ℕ → Bool
+unfoldable pub inside : ℕ → Shifts → ℕ → Bool
 inside k [] g = true
 inside k (p ∷ ps) g = (ltb (p .0) (2 ^ k) && (ltb (p .0 * p .1) (2 ^ k) && eqb (bitAnd g (p .0) * p .1 % 2 ^ p .0) 0)) && inside k ps g
 
@@ -74,7 +74,7 @@ record Inside (k d a g : ℕ) : Type 0 where
   places : d * a < 2 ^ k
   whole : bitAnd g d * a % 2 ^ d ≡ 0
 
-inside-move : (k : ℕ) (p : ℕ × ℕ) (ps : Moves) (g : ℕ) → inside k (p ∷ ps) g ≡ true → Inside k (p .0) (p .1) g × (inside k ps g ≡ true)
+inside-move : (k : ℕ) (p : ℕ × ℕ) (ps : Shifts) (g : ℕ) → inside k (p ∷ ps) g ≡ true → Inside k (p .0) (p .1) g × (inside k ps g ≡ true)
 unfolding inside
 inside-move k p ps g e =
     let a = both _ (inside k ps g) e in
@@ -168,7 +168,7 @@ up-whole d w y l e = ap (bitXor y) (spread ∙ ap (bitXor (bitAnd y w)) shifted)
 
 -- a list of moves, of all parts
 
-downs-parts : (k n : ℕ) (ps : Moves) {v g : ℕ → ℕ → ℕ} → Small k v → Small k g → ((m x : ℕ) → inside k ps (g m x) ≡ true) → (m x : ℕ)
+downs-parts : (k n : ℕ) (ps : Shifts) {v g : ℕ → ℕ → ℕ} → Small k v → Small k g → ((m x : ℕ) → inside k ps (g m x) ≡ true) → (m x : ℕ)
     → downAll k n ps (inParts k n g m x) (inParts k n v m x) ≡ inParts k n (λ m x. downs ps (g m x) (v m x)) m x
 unfolding downAll downs
 downs-parts k n [] hv hg h m x = refl
@@ -178,14 +178,14 @@ downs-parts k n (p ∷ ps) {v} {g} hv hg h m x =
     ap (downAll k n ps (inParts k n g m x)) (down-parts k n hv hg (p .0) (p .1) own m x)
     ∙ downs-parts k n ps small hg (λ m x. inside-move k p ps (g m x) (h m x) .1) m x
 
-ups-lt : (k : ℕ) (ps : Moves) (g v : ℕ) → inside k ps g ≡ true → v < 2 ^ k → ups ps g v < 2 ^ k
+ups-lt : (k : ℕ) (ps : Shifts) (g v : ℕ) → inside k ps g ≡ true → v < 2 ^ k → ups ps g v < 2 ^ k
 unfolding ups
 ups-lt k [] g v h l = l
 ups-lt k (p ∷ ps) g v h l =
     let i = inside-move k p ps g h in
     upIn-lt k (p .0) (bitAnd g (p .0) * p .1) (ups ps g v) (ups-lt k ps g v (i .1) l) (marks-le (i .0))
 
-ups-parts : (k n : ℕ) → k * n ≡ 64 → (ps : Moves) {v g : ℕ → ℕ → ℕ} → Small k v → Small k g → ((m x : ℕ) → inside k ps (g m x) ≡ true) → (m x : ℕ)
+ups-parts : (k n : ℕ) → k * n ≡ 64 → (ps : Shifts) {v g : ℕ → ℕ → ℕ} → Small k v → Small k g → ((m x : ℕ) → inside k ps (g m x) ≡ true) → (m x : ℕ)
     → upAll k n ps (inParts k n g m x) (inParts k n v m x) ≡ inParts k n (λ m x. ups ps (g m x) (v m x)) m x
 unfolding upAll ups
 ups-parts k n s [] hv hg h m x = refl
@@ -204,16 +204,16 @@ ups-parts k n s (p ∷ ps) {v} {g} hv hg h m x =
     ∙ up-parts k n small hg (p .0) (p .1) own m x
 
 -- One level of gather. Computed: whatever the count c of the lower half, its c bits and the s bits above them, the moves join the two.
-unfoldable pub joinsAt : ℕ → Moves → ℕ → ℕ → ℕ → Bool
+unfoldable pub joinsAt : ℕ → Shifts → ℕ → ℕ → ℕ → Bool
 joinsAt s ps c lo hi = eqb (downs ps (s - c) (hi * 2 ^ s + lo)) (hi * 2 ^ c + lo)
 
-unfoldable pub joins : ℕ → Moves → Bool
+unfoldable pub joins : ℕ → Shifts → Bool
 joins s ps = every (suc s) λ c. inside (s + s) ps (s - c) && every (2 ^ c) λ lo. every (2 ^ s) (joinsAt s ps c lo)
 
 gaps-small : (s m : ℕ) → s - rank m s < 2 ^ (s + s)
 gaps-small s m = omega (arith, below-pow s, pow-mono {i = s} {j = s + s} (omega arith))
 
-pub gather-level : (s n : ℕ) (ps : Moves) → joins s ps ≡ true → (m x : ℕ)
+pub gather-level : (s n : ℕ) (ps : Shifts) → joins s ps ≡ true → (m x : ℕ)
     → downAll (s + s) n ps (gapsOf s n m) (gatherParts s (n + n) m x) ≡ gatherParts (s + s) n m x
 unfolding joins joinsAt
 gather-level s n ps t m x =
@@ -237,10 +237,10 @@ gather-level s n ps t m x =
 
 -- One level of scatter. Computed: whatever the count c of the lower half, and whatever the bits of the part, the lower half keeps its c bits and the upper
 -- half takes those that follow them.
-unfoldable pub splitsAt : ℕ → Moves → ℕ → ℕ → Bool
+unfoldable pub splitsAt : ℕ → Shifts → ℕ → ℕ → Bool
 splitsAt s ps c v = eqb (ups ps (s - c) v % 2 ^ c) (v % 2 ^ c) && eqb (ups ps (s - c) v / 2 ^ s) (v / 2 ^ c % 2 ^ s)
 
-unfoldable pub splits : ℕ → Moves → Bool
+unfoldable pub splits : ℕ → Shifts → Bool
 splits s ps = every (suc s) λ c. inside (s + s) ps (s - c) && every (2 ^ (s + s)) (splitsAt s ps c)
 
 mod-less : (x c k : ℕ) → c ≤ k → x % 2 ^ k % 2 ^ c ≡ x % 2 ^ c
@@ -252,7 +252,7 @@ scatter-same w m a b s h e =
     ∙ ap (scatterOf w m) (sym (mod-less a (rank m w) s h) ∙ ap (λ (n : ℕ). n % 2 ^ rank m w) e ∙ mod-less b (rank m w) s h)
     ∙ scatter-count w m b
 
-module _ (s : ℕ) (ps : Moves) (t : splits s ps ≡ true) where
+module _ (s : ℕ) (ps : Shifts) (t : splits s ps ≡ true) where
   partUp : ℕ → ℕ → ℕ
   partUp m y = ups ps (s - rank m s) (y % 2 ^ (s + s))
 

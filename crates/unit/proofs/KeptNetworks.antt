@@ -12,7 +12,7 @@ use Rattle.network.specs.Stage.{falling, rising, butterflyOf, inverseOf}
 use Rattle.network.specs.Word.{swapsAt, exchangesOf, preparedOf, travelOf}
 use Rattle.network.proofs.Six.{six-same}
 use Rattle.unit.specs.Bank.{stagesOf}
-use Rattle.unit.specs.Lent.{keptOf, Kept, isFor}
+use Rattle.unit.specs.Lent.{keptOf, KeptNetwork, isFor}
 use Rattle.unit.proofs.Held.{elements, all-elements}
 
 -- The code's arrays, by their elements
@@ -59,7 +59,7 @@ module _ (rs : List ℕ) (h : length rs ≡ 3) where
       subst (λ (n : ℕ). getD (keptOf b rs) (n + i) 0 ≡ getD rs i 0) (length-words b)
       (getD-append-add (preparedOf b 6 (stagesOf rs)) rs i 0)
 
-  pub kept-is : (b : Bool) {ks : List ℕ} → ks ≡ keptOf b rs → Kept b ks
+  pub kept-is : (b : Bool) {ks : List ℕ} → ks ≡ keptOf b rs → KeptNetwork b ks
   kept-is b e =
       let n = ap length e ∙ length-append (preparedOf b 6 (stagesOf rs)) rs in
       record { registers = rs; three = h; nine = omega (arith, n, length-words b); is = e }
@@ -79,7 +79,7 @@ module _ (rs : List ℕ) (h : length rs ≡ 3) where
         ∙ six-same 6 (omega arith) (stagesOf rs) length-stages true l
 
 -- what is kept for these registers need not be made anew
-pub kept-same : (rs : List ℕ) → length rs ≡ 3 → (b : Bool) {ks : List ℕ} → Kept b ks → isFor ks rs ≡ true → ks ≡ keptOf b rs
+pub kept-same : (rs : List ℕ) → length rs ≡ 3 → (b : Bool) {ks : List ℕ} → KeptNetwork b ks → isFor ks rs ≡ true → ks ≡ keptOf b rs
 kept-same rs h b {ks} k e =
     let held = k .registers in
     let at : (i : ℕ) → getD held i 0 ≡ getD ks (6 + i) 0 = λ i. sym (ap (λ (l : List ℕ). getD l (6 + i) 0) (k .is) ∙ register-kept held (k .three) b i) in

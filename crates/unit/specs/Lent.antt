@@ -25,7 +25,7 @@ loadedAt r rs x y = cond (eqb r 1) (set (set rs 0 x) 1 y) (cond (eqb r 2) (set r
 abbrev pub keptOf : Bool → List ℕ → List ℕ
 keptOf rising rs = preparedOf rising 6 (stagesOf rs) ++ rs
 
-pub record Kept (rising : Bool) (ks : List ℕ) : Type 0 where
+pub record KeptNetwork (rising : Bool) (ks : List ℕ) : Type 0 where
   pub registers : List ℕ
   pub three : length registers ≡ 3
   pub nine : length ks ≡ 9

@@ -11,7 +11,7 @@ ghost use Rattle.network.specs.Decoder.{decodeOf, decodeInverseOf};
 ghost use Rattle.network.specs.Stage.{butterflyOf, inverseOf};
 ghost use Rattle.network.specs.Word.{preparedOf};
 ghost use Rattle.unit.specs.Bank.{stagesOf, packedOf};
-ghost use Rattle.unit.specs.Lent.{Sized, bankOf, loadedAt, keptOf, isFor, Kept};
+ghost use Rattle.unit.specs.Lent.{Sized, bankOf, loadedAt, keptOf, isFor, KeptNetwork};
 ghost use Rattle.unit.specs.Calls.{operateOf, numberRefusal, readOf, writeOf};
 ghost use Rattle.unit.specs.Run.{operationAt, stepBy, operationsOf, ranOf, operationsRefusal, runRefusal, ranAt, outcomeOf, runOf};
 ghost use Rattle.unit.specs.Operation.{cyclesOf, isKind, usedOf, areRegisters, operationRefusal};
@@ -207,7 +207,7 @@ fn is_for(kept: &[u64; 9], registers: &[u64; 3]) -> bool
 
 // internal: what is kept of the inverse (rising) or of the butterfly, and a triple of registers. It is made for these, unless it is so already.
 fn keep(rising: bool, kept: &mut [u64; 9], registers: &[u64; 3])
-    requires { ⌜ Kept rising (now kept) × (length (now registers) ≡ 3) ⌝ }
+    requires { ⌜ KeptNetwork rising (now kept) × (length (now registers) ≡ 3) ⌝ }
     ensures { λ r. ⌜ now (kept .exit) ≡ keptOf rising (now (registers .entry)) ⌝ }
 {
     if is_for(kept, registers) {
@@ -218,8 +218,8 @@ fn keep(rising: bool, kept: &mut [u64; 9], registers: &[u64; 3])
 
 // internal: what is kept of the butterfly, and a triple of registers. The word through it at these.
 fn butterfly_at(kept: &mut [u64; 9], registers: &[u64; 3], word: u64) -> u64
-    requires { ⌜ Kept false (now kept) × (length (now registers) ≡ 3) ⌝ }
-    ensures { λ r. ⌜ (r ≡ butterflyOf 6 (stagesOf (now (registers .entry))) word) × Kept false (now (kept .exit)) ⌝ }
+    requires { ⌜ KeptNetwork false (now kept) × (length (now registers) ≡ 3) ⌝ }
+    ensures { λ r. ⌜ (r ≡ butterflyOf 6 (stagesOf (now (registers .entry))) word) × KeptNetwork false (now (kept .exit)) ⌝ }
 {
     keep(false, kept, registers);
     network::butterfly_prepared(words_of(*kept), word)
@@ -227,8 +227,8 @@ fn butterfly_at(kept: &mut [u64; 9], registers: &[u64; 3], word: u64) -> u64
 
 // internal: what is kept of the inverse, and a triple of registers. The word through it at these.
 fn inverse_at(kept: &mut [u64; 9], registers: &[u64; 3], word: u64) -> u64
-    requires { ⌜ Kept true (now kept) × (length (now registers) ≡ 3) ⌝ }
-    ensures { λ r. ⌜ (r ≡ inverseOf 6 (stagesOf (now (registers .entry))) word) × Kept true (now (kept .exit)) ⌝ }
+    requires { ⌜ KeptNetwork true (now kept) × (length (now registers) ≡ 3) ⌝ }
+    ensures { λ r. ⌜ (r ≡ inverseOf 6 (stagesOf (now (registers .entry))) word) × KeptNetwork true (now (kept .exit)) ⌝ }
 {
     keep(true, kept, registers);
     network::inverse_prepared(words_of(*kept), word)
@@ -338,9 +338,9 @@ fn step(
     ops: &[u8],
     at: usize,
 )
-    requires { ⌜ Sized (now general) (now b) (now ib) × Kept false (now falling) × Kept true (now rising) × (at + 3 < length (now ops)) ⌝ }
+    requires { ⌜ Sized (now general) (now b) (now ib) × KeptNetwork false (now falling) × KeptNetwork true (now rising) × (at + 3 < length (now ops)) ⌝ }
     ensures { λ r. ⌜ (bankOf (now (general .exit)) (now (b .exit)) (now (ib .exit)) ≡ stepBy (bankOf (now (general .entry)) (now (b .entry)) (now (ib .entry))) (operationAt (now (ops .entry)) at))
-        × Kept false (now (falling .exit)) × Kept true (now (rising .exit)) ⌝ }
+        × KeptNetwork false (now (falling .exit)) × KeptNetwork true (now (rising .exit)) ⌝ }
 {
     let kind = ops[at];
     let r1 = ops[at + 1];

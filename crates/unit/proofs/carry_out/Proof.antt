@@ -5,7 +5,7 @@ use Prim.Native.Nat.{_+_, _-_, _*_, _<_, _≤_}
 use borrow.Author.Needs.{needs}
 use lib.ListN.{length, drop, replicate}
 use Rattle.unit.specs.Run.{operationAt, operationsOf}
-use Rattle.unit.specs.Lent.{bankOf, Sized, Kept}
+use Rattle.unit.specs.Lent.{bankOf, Sized, KeptNetwork}
 use Rattle.unit.proofs.OperationLists.{operations-next, operations-end}
 use Rattle.unit.proofs.LentRegisters.{sized-after}
 use Rattle.unit.proofs.KeptNetworks.{kept-is}
@@ -15,7 +15,7 @@ use Rattle.unit.proofs.carry_out.Tie as tie
 
 abbrev Inv-loop : tie.InvT-loop
 Inv-loop general₀ b₀ ib₀ ops budget falling₀ rising₀ left₀ ran₀ at₀ general b ib falling rising left ran at =
-    (at ≤ length ops) × (at ≡ ran * 4) × Sized general b ib × Kept false falling × Kept true rising
+    (at ≤ length ops) × (at ≡ ran * 4) × Sized general b ib × KeptNetwork false falling × KeptNetwork true rising
     × Going (bankOf general₀ b₀ ib₀) (operationsOf ops) budget (bankOf general b ib) left ran (operationsOf (drop at ops))
 
 abbrev μ-loop : tie.MeasureT-loop
