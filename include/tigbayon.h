@@ -31,8 +31,8 @@
 
 /* The version of this header, and of the archive that it belongs to. */
 #define TB_VERSION_MAJOR 0
-#define TB_VERSION_MINOR 2
-#define TB_VERSION_PATCH 1
+#define TB_VERSION_MINOR 3
+#define TB_VERSION_PATCH 0
 
 #ifdef __cplusplus
 extern "C" {
@@ -61,6 +61,7 @@ enum TbRefusal {
 /* The answer of tb_gather, tb_scatter and tb_group. */
 typedef struct {
     uint8_t refusal; /* an enum TbRefusal */
+    uint32_t count;  /* k, from 0 to w; 0 if the call is refused */
     uint64_t word;   /* the result; 0 if the call is refused */
 } TbGathered;
 
@@ -176,8 +177,8 @@ uint64_t tb_inverse_prepared(const uint64_t swaps[6], uint64_t word);
  * of the mask in bits 0 to 2*j*d + d-1, where a turn moves the top bit to the
  * bottom and complements it. The inverse has the butterfly's stages in
  * reversed order, each stage's bits as they are. For each word of the width,
- *   tb_scatter(w, mask, word) is tb_butterfly(w, butterfly, word) & mask,
- *   tb_gather(w, mask, word) is tb_inverse(w, inverse, word & mask).
+ *   tb_scatter(w, mask, word).word is tb_butterfly(w, butterfly, word).word & mask,
+ *   tb_gather(w, mask, word).word is tb_inverse(w, inverse, word & mask).word.
  * Refusals: TB_REFUSAL_WIDTH, TB_REFUSAL_ABOVE.
  */
 TbControls2 tb_decode(uint32_t width, uint64_t mask);
@@ -227,7 +228,8 @@ TbControls1 tb_route_inverse(uint32_t width, const uint8_t *permutation, size_t 
  * Packed, fields lie end to end: the first begins at bit 0 of word 0, the next
  * at the bit after its last, crossing into the next word where needed. The
  * k*(b - a) bits of fields a to b-1 need k*(b - a)/64 words, rounded up; what is
- * left of the last of these is its spare bits.
+ * left of the last of these is its spare bits. A call that is carried out answers
+ * k as its count, also with a = b.
  *
  * In each call here, the first pointer points to `length` words, which are only
  * read, and `out` to `out_length` words. The two lists must not overlap. A
@@ -237,6 +239,7 @@ TbControls1 tb_route_inverse(uint32_t width, const uint8_t *permutation, size_t 
 /* The answer of tb_pack and tb_unpack. */
 typedef struct {
     uint8_t refusal; /* an enum TbRefusal */
+    uint32_t count;  /* k, from 0 to 64; 0 if the call is refused */
     uint64_t bits;   /* k*(b - a); 0 if the call is refused */
 } TbPacked;
 
@@ -281,7 +284,8 @@ TbPacked tb_unpack(uint64_t mask, const uint64_t *packed, size_t length, size_t 
  * But for r1 in kind 5, r1, r2 and r3 are numbers of general registers. Those
  * that the table names for a kind are in use; the other bytes are not looked
  * at. Operands are read before the result is written, and all other registers
- * stay as they were. A refused call leaves every register as it was.
+ * stay as they were. Kinds 6, 7 and 10 write the word alone, no count. A refused
+ * call leaves every register as it was.
  */
 
 /* The registers: b and ib hold controls of the butterfly and of the inverse. */

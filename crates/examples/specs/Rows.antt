@@ -1,4 +1,5 @@
--- The marked rows of paper 01, 'Reel of examples', 1 to 10b, one list: each a call with its outcome. Rows 11 to 13 are run, not proved. Assumes nothing.
+-- The marked rows of paper 01, 'Reel of examples', 1 to 10b, one list: each a call with its outcome, rows 1 to 3 with the count of paper 02, Req 01. Rows 11 to
+-- 13 are run, not proved. Assumes nothing.
 use mathlib.Core.Path.{_≡_}
 use Prim.Native.Nat.{ℕ}
 use mathlib.Core.List.{List, [], _∷_, _++_}
@@ -31,7 +32,7 @@ pub data Call : Type 0 where
 
 -- the whole answer of a call as numbers, the refusal first
 abbrev pub gathered : Gathered → List ℕ
-gathered r = r .refusal ∷ r .word ∷ []
+gathered r = r .refusal ∷ r .count ∷ r .word ∷ []
 
 abbrev pub carried : Carried → List ℕ
 carried r = r .refusal ∷ r .word ∷ []
@@ -82,9 +83,9 @@ decodeThenGather = 8 ∷ 0 ∷ 0 ∷ 3 ∷ 3 ∷ 1 ∷ 2 ∷ 3 ∷ []
 -- Rows 1 to 10b; row 9 is on either network. A run's end: 1 is done, 2 is spent.
 abbrev pub rows : List Row
 rows =
-    record { call = gather 8 0xAD 0xB6; outcome = 0 ∷ 0x1A ∷ [] }
-    ∷ record { call = scatter 8 0xAD 0x1A; outcome = 0 ∷ 0xA4 ∷ [] }
-    ∷ record { call = group 8 0xAD 0xB6; outcome = 0 ∷ 0x7A ∷ [] }
+    record { call = gather 8 0xAD 0xB6; outcome = 0 ∷ 5 ∷ 0x1A ∷ [] }
+    ∷ record { call = scatter 8 0xAD 0x1A; outcome = 0 ∷ 5 ∷ 0xA4 ∷ [] }
+    ∷ record { call = group 8 0xAD 0xB6; outcome = 0 ∷ 5 ∷ 0x7A ∷ [] }
     ∷ record { call = decode 8 0xAD; outcome = 0 ∷ 0x7 ∷ 0x1 ∷ 0x5 ∷ 0 ∷ 0 ∷ 0 ∷ 0x5 ∷ 0x1 ∷ 0x7 ∷ 0 ∷ 0 ∷ 0 ∷ [] }
     ∷ record { call = decode 8 0; outcome = 0 ∷ zeros ++ zeros }
     ∷ record { call = throughButterfly 8 zeros 0x01; outcome = 0 ∷ 0x80 ∷ [] }

@@ -4,12 +4,13 @@ use mathlib.Core.Bool.{Bool, true, not, _||_}
 use mathlib.Core.List.{[], _∷_}
 use Prim.Native.Nat.{ℕ, _^_, _<_, _≤_}
 use native.Mathlib.Omega.{arith}
-use native.Mathlib.Decide.{decLt}
 use borrow.Author.Tests.{eq-eqb, ne-eqb, ltb-true, not-false}
+use Rattle.bits.specs.Bit.{rank}
 use Rattle.bits.specs.Refusal.{accepted, fits, lowest, AnswersLowest}
 use Rattle.bits.proofs.Refusals.{width-le, answers-lowest, none-applies, neither}
+use Rattle.bits.proofs.Rank.{rank-wider}
 use Rattle.gather.specs.declared.Gathered.{Gathered}
-use Rattle.gather.specs.Gather.{conditionsOf, refusalOf, byRefusal, answerOf}
+use Rattle.gather.specs.Gather.{conditionsOf, refusalOf, answerOf}
 
 module _ (w m x : ℕ) where
   -- the refusal, from the outcomes of the three tests: an accepted width, a word and a mask within it
@@ -26,25 +27,28 @@ module _ (w m x : ℕ) where
       (not-false _ (n .0), ltb-true x (2 ^ w) (not-false _ (o .0)), ltb-true m (2 ^ w) (not-false _ (o .1)))
 
   -- demand 1, of gather, scatter and group
-  pub gather-lowest : (f : ℕ → ℕ → ℕ → ℕ) → AnswersLowest (conditionsOf w m x) (λ a. a .refusal) (λ n. record { refusal = n; word = 0 }) (answerOf f w m x)
+  pub gather-lowest : (f : ℕ → ℕ → ℕ → ℕ)
+      → AnswersLowest (conditionsOf w m x) (λ a. a .refusal) (λ n. record { refusal = n; count = 0; word = 0 }) (answerOf f w m x)
   unfolding answerOf refusalOf
   gather-lowest f =
-      answers-lowest (conditionsOf w m x) (omega arith) (λ (a : Gathered). a .refusal) (λ n. record { refusal = n; word = 0 })
-      (record { refusal = 0; word = f w m x }) refl (λ n. refl)
+      answers-lowest (conditionsOf w m x) (omega arith) (λ (a : Gathered). a .refusal) (λ n. record { refusal = n; count = 0; word = 0 })
+      (record { refusal = 0; count = rank m w; word = f w m x }) refl (λ n. refl)
 
   module _ (f : ℕ → ℕ → ℕ → ℕ) {n : ℕ} (e : n ≡ refusalOf w m x) where
-    pub carried-out : n ≡ 0 → {y : ℕ} → y ≡ f w m x → _≡_ {A = Gathered} (record { refusal = 0; word = y }) (answerOf f w m x)
+    pub answer-refused : (n ≡ 0 → ⊥) → _≡_ {A = Gathered} (record { refusal = n; count = 0; word = 0 }) (answerOf f w m x)
+    unfolding answerOf
+    answer-refused z = rw (← e, ne-eqb n 0 z)
+
+    pub carried-out : n ≡ 0 → {y : ℕ} → y ≡ f w m x → _≡_ {A = Gathered} (record { refusal = 0; count = rank m w; word = y }) (answerOf f w m x)
     unfolding answerOf
     carried-out z y = rw (← e, eq-eqb n 0 z, y)
 
     -- the code computes at width 64
-    pub answer-64 : (w ≤ 64 → m < 2 ^ w → x < 2 ^ w → f 64 m x ≡ f w m x) → {y : ℕ} → y ≡ f 64 m x → {r : Gathered} → r ≡ byRefusal n y → r ≡ answerOf f w m x
-    unfolding answerOf
-    answer-64 same {y} g b = b ∙ by (decLt 0 n)
-      where
-        by : Dec (0 < n) → byRefusal n y ≡ byRefusal (refusalOf w m x) (f w m x)
-        by (yes h) = let z : n ≡ 0 → ⊥ = λ q. omega arith in rw (← e, ne-eqb n 0 z)
-        by (no h) =
-            let z : n ≡ 0 = omega arith in
-            let l = within (sym e ∙ z) in
-            rw (← e, eq-eqb n 0 z) (ap (λ (v : ℕ). record { refusal = 0; word = v }) (g ∙ same (width-le w (l .0)) (l .2) (l .1)))
+    pub answer-64 : n ≡ 0 → (w ≤ 64 → m < 2 ^ w → x < 2 ^ w → f 64 m x ≡ f w m x) → {y : ℕ} → y ≡ f 64 m x
+        → {r : Gathered} → r ≡ record { refusal = 0; count = rank m 64; word = y } → r ≡ answerOf f w m x
+    answer-64 z same {y} g b =
+        let l = within (sym e ∙ z) in
+        let v = width-le w (l .0) in
+        b
+        ∙ ap (λ (k : ℕ). record { refusal = 0; count = k; word = y }) (rank-wider (l .2) v)
+        ∙ carried-out z (g ∙ same v (l .2) (l .1))

@@ -1,5 +1,5 @@
--- Demand 2's theorems on gather, scatter and group, over every width, and the definitions by rank. Assumes nothing.
-use mathlib.Core.Path.{_≡_, refl, sym, _∙_, ap}
+-- Demand 2's theorems on gather, scatter and group, over every width, the definitions by rank, and Req 01's theorems on the count. Assumes nothing.
+use mathlib.Core.Path.{_≡_, refl, sym, _∙_, ap, subst}
 use mathlib.Core.Logic.{_⊎_, inl, inr}
 use mathlib.Core.List.{_++_}
 use Prim.Native.Nat.{ℕ, _+_, _-_, _%_, _^_, _<_, _≤_, min}
@@ -17,8 +17,8 @@ use Rattle.bits.proofs.Places.{bit-pick, bit-pick-above, pick-lt, unmarked-not,
 use borrow.Author.Tests.{lt-ltb}
 use Rattle.gather.specs.declared.Gathered.{Gathered}
 use Rattle.gather.specs.Gather.{gatherOf, scatterOf, groupOf, refusalOf, answerOf}
-use Rattle.gather.proofs.AnyWidth.{gather-lt, scatter-lt}
-use Rattle.gather.proofs.MaskAnswers.{carried-out, within, refusal-by}
+use Rattle.gather.proofs.AnyWidth.{gather-count, gather-lt, scatter-lt}
+use Rattle.gather.proofs.MaskAnswers.{answer-refused, carried-out, within, refusal-by}
 
 module _ (w m x : ℕ) where
   -- Gather by rank: a marked bit comes to the place that counts the marked bits below it
@@ -129,15 +129,41 @@ gather-scatter w m x =
 
 module _ (w m x : ℕ) (h : refusalOf w m x ≡ 0) where
   calls-then : (f g : ℕ → ℕ → ℕ → ℕ) → f w m x < 2 ^ w
-      → answerOf g w m (answerOf f w m x .word) ≡ record { refusal = 0; word = g w m (f w m x) }
+      → answerOf g w m (answerOf f w m x .word) ≡ record { refusal = 0; count = rank m w; word = g w m (f w m x) }
   calls-then f g l =
       let i = within w m x h in
       let z : refusalOf w m (f w m x) ≡ 0 = refusal-by w m (f w m x) (i .0) (lt-ltb _ _ l) (lt-ltb _ _ (i .2)) in
       ap (λ (a : Gathered). answerOf g w m (a .word)) (sym (carried-out w m x f (sym h) refl refl))
       ∙ sym (carried-out w m (f w m x) g (sym z) refl refl)
 
-  pub calls-scatter-gather : answerOf scatterOf w m (answerOf gatherOf w m x .word) ≡ record { refusal = 0; word = bitAnd x m }
+  pub calls-scatter-gather : answerOf scatterOf w m (answerOf gatherOf w m x .word) ≡ record { refusal = 0; count = rank m w; word = bitAnd x m }
   calls-scatter-gather = rw (calls-then gatherOf scatterOf (gather-lt m x w), scatter-gather w m x (within w m x h .2))
 
-  pub calls-gather-scatter : answerOf gatherOf w m (answerOf scatterOf w m x .word) ≡ record { refusal = 0; word = x % 2 ^ rank m w }
+  pub calls-gather-scatter : answerOf gatherOf w m (answerOf scatterOf w m x .word) ≡ record { refusal = 0; count = rank m w; word = x % 2 ^ rank m w }
   calls-gather-scatter = rw (calls-then scatterOf gatherOf (scatter-lt m x w), gather-scatter w m x)
+
+-- Req 01: the count of an answer.
+module _ (w m x : ℕ) where
+  -- what holds of zeros beside a refusal and of what is carried out holds of every answer
+  every-answer : (f : ℕ → ℕ → ℕ → ℕ) (P : Gathered → Type 0) → ((n : ℕ) → (n ≡ 0 → ⊥) → P (record { refusal = n; count = 0; word = 0 }))
+      → P (record { refusal = 0; count = rank m w; word = f w m x }) → P (answerOf f w m x)
+  every-answer f P zeros done = by (decLt 0 (refusalOf w m x))
+    where
+      by : Dec (0 < refusalOf w m x) → P (answerOf f w m x)
+      by (yes h) =
+          let z : refusalOf w m x ≡ 0 → ⊥ = λ q. omega arith in
+          subst P (answer-refused w m x f refl z) (zeros (refusalOf w m x) z)
+      by (no h) = subst P (carried-out w m x f refl (omega arith) refl) done
+
+  module _ (f : ℕ → ℕ → ℕ → ℕ) where
+    -- "how many lines a mask opens": the length of the list m0, m1, ..
+    pub calls-count : answerOf f w m x .refusal ≡ 0 → answerOf f w m x .count ≡ length (marked m w)
+    calls-count =
+        every-answer f (λ (a : Gathered). a .refusal ≡ 0 → a .count ≡ length (marked m w)) (λ n z q. absurd (z q)) (λ q. sym (length-marked m w))
+
+    -- "0 to w"
+    pub calls-count-le : answerOf f w m x .count ≤ w
+    calls-count-le = every-answer f (λ (a : Gathered). a .count ≤ w) (λ n z. omega arith) (rank-le m w)
+
+  pub calls-gather-count : answerOf gatherOf w m x .word < 2 ^ answerOf gatherOf w m x .count
+  calls-gather-count = every-answer gatherOf (λ (a : Gathered). a .word < 2 ^ a .count) (λ n z. omega arith) (gather-count m x w)

@@ -3,7 +3,7 @@ use Prim.Native.Nat.{ℕ}
 use mathlib.Core.Bool.{Bool, not, cond, _||_}
 use mathlib.Core.List.{List, [], _∷_, _++_}
 use lib.Dec.{eqb}
-use Rattle.bits.specs.Bit.{marked, unmarked, pick, put}
+use Rattle.bits.specs.Bit.{rank, marked, unmarked, pick, put}
 use Rattle.bits.specs.Refusal.{accepted, fits, lowest}
 use Rattle.gather.specs.declared.Gathered.{Gathered}
 
@@ -26,10 +26,9 @@ conditionsOf w m x = (1, not (accepted w)) ∷ (2, not (fits w x) || not (fits w
 unfoldable pub refusalOf : ℕ → ℕ → ℕ → ℕ
 refusalOf w m x = lowest (conditionsOf w m x)
 
--- the refusal and a zero, or no refusal and the word
-abbrev pub byRefusal : ℕ → ℕ → Gathered
-byRefusal n y = cond (eqb n 0) (record { refusal = 0; word = y }) (record { refusal = n; word = 0 })
-
--- the whole answer of a call that means f
+-- The whole answer of a call that means f. Paper 02, Req 01: "Gather, scatter and group now answer the count of marked lines beside the word, 0 to w.
+-- .. A refused call shows 0."
 unfoldable pub answerOf : (ℕ → ℕ → ℕ → ℕ) → ℕ → ℕ → ℕ → Gathered
-answerOf f w m x = byRefusal (refusalOf w m x) (f w m x)
+answerOf f w m x =
+    cond (eqb (refusalOf w m x) 0) (record { refusal = 0; count = rank m w; word = f w m x })
+    (record { refusal = refusalOf w m x; count = 0; word = 0 })

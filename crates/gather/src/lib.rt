@@ -4,12 +4,13 @@ ghost use Prim.Native.Nat.{_+_, _-_, _*_, _/_, _^_, _≤_, _<_};
 ghost use lib.Bits.{bitAnd};
 ghost use Rattle.bits.specs.Bit.{rank};
 ghost use Rattle.gather.specs.Parts.{countsOf, levelsOf, gatherParts, scatterParts, dealt, down, up};
-ghost use Rattle.gather.specs.Gather.{gatherOf, scatterOf, groupOf, refusalOf, byRefusal, answerOf};
+ghost use Rattle.gather.specs.Gather.{gatherOf, scatterOf, groupOf, refusalOf, answerOf};
 
-// What a call answers: 0 and the word, or the number of the refusal and a zero.
+// What a call answers: 0, the count of the mask's ones and the word, or the number of the refusal and zeros.
 #[repr(C)]
 pub struct Gathered {
     pub refusal: u8,
+    pub count: u32,
     pub word: u64,
 }
 
@@ -143,12 +144,20 @@ fn deal(mask: u64, word: u64, counts: u64) -> u64
     out
 }
 
-// internal: room above the marked bits. They are gathered, below `start`.
-fn gather_below(start: u64, mask: u64, word: u64) -> u64
-    requires { ⌜ start * 2 ^ rank mask 64 < 2 ^ 64 ⌝ }
+// internal: the counts of the mask's bytes. Their sum: the upper four are added to the lower four, and byte 3 of the product adds those up.
+fn add_up(mask: u64, counts: u64) -> u32
+    requires { ⌜ counts ≡ countsOf 8 8 mask ⌝ }
+    ensures { λ r. ⌜ r ≡ rank mask 64 ⌝ }
+{
+    let sums = (counts + (counts >> 32)) % 0x100000000;
+    (((sums * 0x01010101) >> 24) % 256) as u32
+}
+
+// internal: what the mask says, and room above the marked bits. They are gathered, below `start`.
+fn gather_below(start: u64, mask: u64, word: u64, levels: Levels) -> u64
+    requires { ⌜ (start * 2 ^ rank mask 64 < 2 ^ 64) × (levels ≡ levelsOf mask) ⌝ }
     ensures { λ r. ⌜ r ≡ start * 2 ^ rank mask 64 + gatherOf 64 mask word ⌝ }
 {
-    let levels = levels_of(mask);
     join(
         start,
         mask,
@@ -158,58 +167,102 @@ fn gather_below(start: u64, mask: u64, word: u64) -> u64
     )
 }
 
+// internal: what the mask says. Gather at width 64.
+fn gather_by(mask: u64, word: u64, levels: Levels) -> u64
+    requires { ⌜ levels ≡ levelsOf mask ⌝ }
+    ensures { λ r. ⌜ r ≡ gatherOf 64 mask word ⌝ }
+{
+    gather_below(0, mask, word, levels)
+}
+
+// internal: what the mask says. Scatter at width 64.
+fn scatter_by(mask: u64, word: u64, levels: Levels) -> u64
+    requires { ⌜ levels ≡ levelsOf mask ⌝ }
+    ensures { λ r. ⌜ r ≡ scatterOf 64 mask word ⌝ }
+{
+    scatter_bytes(mask, deal(mask, word, levels.counts), levels)
+}
+
 // internal: gather at width 64
 pub fn gather_64(mask: u64, word: u64) -> u64
     ensures { λ r. ⌜ r ≡ gatherOf 64 mask word ⌝ }
 {
-    gather_below(0, mask, word)
+    gather_by(mask, word, levels_of(mask))
 }
 
 // internal: scatter at width 64
 pub fn scatter_64(mask: u64, word: u64) -> u64
     ensures { λ r. ⌜ r ≡ scatterOf 64 mask word ⌝ }
 {
-    let levels = levels_of(mask);
-    scatter_bytes(mask, deal(mask, word, levels.counts), levels)
+    scatter_by(mask, word, levels_of(mask))
 }
 
 // internal: group at width 64. The unmarked bits, and below them the marked ones.
 pub fn group_64(mask: u64, word: u64) -> u64
     ensures { λ r. ⌜ r ≡ groupOf 64 mask word ⌝ }
 {
-    gather_below(gather_64(!mask, word), mask, word)
+    gather_below(gather_64(!mask, word), mask, word, levels_of(mask))
 }
 
-// The answer of a call: the word, unless it is refused.
-fn answer(refused: u8, word: u64) -> Gathered
-    ensures { λ r. ⌜ r ≡ byRefusal refused word ⌝ }
+// The answer of a call that is refused.
+fn refused(number: u8) -> Gathered
+    ensures { λ r. ⌜ r ≡ record { refusal = number; count = 0; word = 0 } ⌝ }
 {
-    if refused != 0 {
-        return Gathered {
-            refusal: refused,
-            word: 0,
-        };
+    Gathered {
+        refusal: number,
+        count: 0,
+        word: 0,
     }
-    Gathered { refusal: 0, word }
+}
+
+// internal: the counts of the mask's bytes. The answer of a call that is carried out: the word with the mask's count.
+fn with_count(mask: u64, counts: u64, word: u64) -> Gathered
+    requires { ⌜ counts ≡ countsOf 8 8 mask ⌝ }
+    ensures { λ r. ⌜ r ≡ record { refusal = 0; count = rank mask 64; word = word } ⌝ }
+{
+    Gathered {
+        refusal: 0,
+        count: add_up(mask, counts),
+        word,
+    }
 }
 
 // The marked bits of the word, brought to the right in order, zeros above.
 pub fn gather(width: u32, mask: u64, word: u64) -> Gathered
     ensures { λ r. ⌜ r ≡ answerOf gatherOf width mask word ⌝ }
 {
-    answer(refusal(width, mask, word), gather_64(mask, word))
+    let number = refusal(width, mask, word);
+    if number != 0 {
+        return refused(number);
+    }
+    let levels = levels_of(mask);
+    with_count(mask, levels.counts, gather_by(mask, word, levels))
 }
 
 // The bits of the word from the right, taken in order to the marked places, zeros elsewhere.
 pub fn scatter(width: u32, mask: u64, word: u64) -> Gathered
     ensures { λ r. ⌜ r ≡ answerOf scatterOf width mask word ⌝ }
 {
-    answer(refusal(width, mask, word), scatter_64(mask, word))
+    let number = refusal(width, mask, word);
+    if number != 0 {
+        return refused(number);
+    }
+    let levels = levels_of(mask);
+    with_count(mask, levels.counts, scatter_by(mask, word, levels))
 }
 
 // The marked bits of the word in order, and above them the unmarked ones in order.
 pub fn group(width: u32, mask: u64, word: u64) -> Gathered
     ensures { λ r. ⌜ r ≡ answerOf groupOf width mask word ⌝ }
 {
-    answer(refusal(width, mask, word), group_64(mask, word))
+    let number = refusal(width, mask, word);
+    if number != 0 {
+        return refused(number);
+    }
+    let levels = levels_of(mask);
+    with_count(
+        mask,
+        levels.counts,
+        gather_below(gather_64(!mask, word), mask, word, levels),
+    )
 }

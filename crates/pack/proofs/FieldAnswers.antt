@@ -2,9 +2,10 @@
 use mathlib.Core.Path.{_≡_, refl, sym, _∙_, ap, subst}
 use mathlib.Core.Bool.{Bool, true, false, cond}
 use mathlib.Core.List.{List, _++_}
-use Prim.Native.Nat.{ℕ, zero, suc, _-_, _*_, _≤_}
+use Prim.Native.Nat.{ℕ, zero, suc, _-_, _*_, _<_, _≤_}
 use native.Mathlib.Omega.{arith}
-use native.Mathlib.Nat.{mul-le-mul-right}
+use native.Mathlib.Decide.{decLt}
+use native.Mathlib.Nat.{mul-le-mul-right, zero-mul}
 use lib.Dec.{eqb}
 use lib.ListN.{length, take, drop, length-take, length-drop}
 use borrow.Rule.Slice.PartMut.{post-is}
@@ -15,7 +16,7 @@ use Rattle.pack.specs.declared.Packed.{Packed}
 use Rattle.pack.specs.Fields.{upTo, needed, cut, scatteredAt, unpackInto}
 use Rattle.pack.specs.Calls.{fieldsConditions, fieldsRefusal, fieldsAnswer, leftOf}
 
--- the count of bits fits
+-- the number of bits fits
 pub bits-le : {k d : ℕ} → k ≤ 64 → d ≤ 2048 → k * d ≤ 131072
 bits-le {k} {d} h l = omega (arith, mul-le-mul-right d h)
 
@@ -60,46 +61,63 @@ module _ (k a b own other : ℕ) where
 
   -- demand 1, of the answer and of the words lent
   pub fields-lowest : (done out : List ℕ)
-      → AnswersLowest {A = Packed × List ℕ} (fieldsConditions k a b own other) (λ r. r .0 .refusal) (λ n. (record { refusal = n; bits = 0 }, out))
+      → AnswersLowest {A = Packed × List ℕ} (fieldsConditions k a b own other) (λ r. r .0 .refusal) (λ n. (record { refusal = n; count = 0; bits = 0 }, out))
       (fieldsAnswer k a b own other, leftOf k a b own other done out)
   unfolding fieldsAnswer leftOf fieldsRefusal
   fields-lowest done out =
       let cs = fieldsConditions k a b own other in
-      let none : ℕ → Packed × List ℕ = λ n. (record { refusal = n; bits = 0 }, out) in
+      let none : ℕ → Packed × List ℕ = λ n. (record { refusal = n; count = 0; bits = 0 }, out) in
       subst (AnswersLowest cs (λ r. r .0 .refusal) none) (cond-pair (eqb (lowest cs) 0) _ _ done out)
-      (answers-lowest cs (omega arith) (λ r. r .0 .refusal) none (record { refusal = 0; bits = k * (b - a) }, done) refl (λ n. refl))
+      (answers-lowest cs (omega arith) (λ r. r .0 .refusal) none (record { refusal = 0; count = k; bits = k * (b - a) }, done) refl (λ n. refl))
 
   -- the answer's first number is the refusal
   pub answer-refusal : fieldsAnswer k a b own other .refusal ≡ fieldsRefusal k a b own other
   unfolding fieldsAnswer
   answer-refusal = by-number (fieldsRefusal k a b own other)
     where
-      by-number : (r : ℕ) → cond {A = Packed} (eqb r 0) (record { refusal = 0; bits = k * (b - a) }) (record { refusal = r; bits = 0 }) .refusal ≡ r
+      by-number : (r : ℕ) → cond {A = Packed} (eqb r 0) (record { refusal = 0; count = k; bits = k * (b - a) }) (record { refusal = r; count = 0; bits = 0 }) .refusal ≡ r
       by-number zero = refl
       by-number (suc r) = rw (ne-eqb (suc r) 0 (λ e. omega arith))
-
-  -- bits answered: k times the number of fields
-  pub answer-bits : fieldsAnswer k a b own other .refusal ≡ 0 → fieldsAnswer k a b own other .bits ≡ k * (b - a)
-  unfolding fieldsAnswer
-  answer-bits h = rw (eq-eqb (fieldsRefusal k a b own other) 0 (sym answer-refusal ∙ h))
 
   -- the code's answer
 
   module _ {n : ℕ} (e : n ≡ fieldsRefusal k a b own other) where
-    pub answer-refused : (n ≡ 0 → ⊥) → _≡_ {A = Packed} (record { refusal = n; bits = 0 }) (fieldsAnswer k a b own other)
+    pub answer-refused : (n ≡ 0 → ⊥) → _≡_ {A = Packed} (record { refusal = n; count = 0; bits = 0 }) (fieldsAnswer k a b own other)
     unfolding fieldsAnswer
     answer-refused z = rw (← e, ne-eqb n 0 z)
 
-    pub answer-done : n ≡ 0 → _≡_ {A = Packed} (record { refusal = 0; bits = k * (b - a) }) (fieldsAnswer k a b own other)
+    pub answer-done : n ≡ 0 → _≡_ {A = Packed} (record { refusal = 0; count = k; bits = k * (b - a) }) (fieldsAnswer k a b own other)
     unfolding fieldsAnswer
     answer-done z = rw (← e, eq-eqb n 0 z)
 
     pub inside : n ≡ 0 → InLimits k a b own other
     inside z = within (sym e ∙ z)
 
-    -- the count of bits fits
+    -- the number of bits fits
     pub bits-fit : k ≤ 64 → n ≡ 0 → k * (b - a) ≤ 131072
     bits-fit h z = let w = inside z in bits-le h (omega (arith, w .end, w .own-limit))
+
+  -- what holds of zeros beside a refusal and of what is carried out holds of every answer
+  every-answer : (P : Packed → Type 0) → ((n : ℕ) → (n ≡ 0 → ⊥) → P (record { refusal = n; count = 0; bits = 0 }))
+      → P (record { refusal = 0; count = k; bits = k * (b - a) }) → P (fieldsAnswer k a b own other)
+  every-answer P zeros done = by (decLt 0 (fieldsRefusal k a b own other))
+    where
+      by : Dec (0 < fieldsRefusal k a b own other) → P (fieldsAnswer k a b own other)
+      by (yes h) =
+          let z : fieldsRefusal k a b own other ≡ 0 → ⊥ = λ q. omega arith in
+          subst P (answer-refused refl z) (zeros (fieldsRefusal k a b own other) z)
+      by (no h) = subst P (answer-done refl (omega arith)) done
+
+  -- so the bits are the count for each field, and the count is k where the call is carried out
+
+  pub answer-bits : fieldsAnswer k a b own other .bits ≡ fieldsAnswer k a b own other .count * (b - a)
+  answer-bits = every-answer (λ (r : Packed). r .bits ≡ r .count * (b - a)) (λ n z. sym (zero-mul (b - a))) refl
+
+  pub answer-count : fieldsAnswer k a b own other .refusal ≡ 0 → fieldsAnswer k a b own other .count ≡ k
+  answer-count = every-answer (λ (r : Packed). r .refusal ≡ 0 → r .count ≡ k) (λ n z q. absurd (z q)) (λ q. refl)
+
+  pub answer-count-le : fieldsAnswer k a b own other .count ≤ k
+  answer-count-le = every-answer (λ (r : Packed). r .count ≤ k) (λ n z. omega arith) (omega arith)
 
   -- what a call answers and leaves, from the answer for fields of as many bits as the code counted
   module _ {size : ℕ} {r : Packed} (s : size ≡ k) (e : r ≡ fieldsAnswer size a b own other) where

@@ -1,4 +1,4 @@
--- Theorems on pack and unpack: the refusals and the count of bits, the stream bit by bit, the round trip. Assumes nothing.
+-- Theorems on pack and unpack: the refusals, the count and the number of bits, the stream bit by bit, the round trip. Assumes nothing.
 use mathlib.Core.Path.{_≡_, refl, sym, _∙_, ap}
 use mathlib.Core.List.{List, _++_, map}
 use Prim.Native.Nat.{ℕ, zero, suc, _+_, _-_, _*_, _/_, _%_, _^_, _<_, _≤_}
@@ -7,10 +7,11 @@ use native.Mathlib.Nat.{zero-mul, mod-lt, div-add-mod', div-lt-iff-lt-mul}
 use lib.Bits.{bitAnd}
 use lib.ListN.{length, getD, take, drop, length-map, List·getD-append}
 use lib.Seq.{ext-getD, getD-take, getD-drop}
-use Rattle.bits.specs.Bit.{bit}
+use Rattle.bits.specs.Bit.{bit, marked}
 use Rattle.bits.specs.Refusal.{AnswersLowest}
 use Rattle.bits.proofs.Word.{bit-mod-two, bit-ofBits, ofBits-lt, ext}
-use Rattle.bits.proofs.Places.{pick-marked-lt}
+use Rattle.bits.proofs.Rank.{rank-le}
+use Rattle.bits.proofs.Places.{length-marked, pick-marked-lt}
 use Rattle.gather.specs.Gather.{gatherOf, scatterOf}
 use Rattle.gather.proofs.Theorems.{scatter-gather}
 use Rattle.pack.specs.declared.Packed.{Packed}
@@ -20,23 +21,36 @@ use Rattle.pack.proofs.FilledLists.{length-upTo, getD-upTo, upTo-same, 
 use Rattle.pack.proofs.Stream.{ofBits-same}
 use Rattle.pack.proofs.Reading.{bit-packed}
 use Rattle.pack.proofs.Turns.{stream-word, stream-end, next-field}
-use Rattle.pack.proofs.FieldAnswers.{InLimits, carried-out, limits, by-none, answer-done, answer-refusal, fields-lowest, answer-bits, length-cut, cut-room}
+use Rattle.pack.proofs.FieldAnswers.{InLimits, carried-out, limits, by-none, answer-done, answer-refusal, fields-lowest, answer-bits, answer-count, answer-count-le, length-cut, cut-room}
 
--- Demand 1, of each call, with the words lent to it. Bits answered: as many as the mask marks, for each word from a up to b.
+-- Demand 1, of each call, with the words lent to it. Of every answer, refused or not: the bits are the count for each word from a up to b. Req 01: the count
+-- is the length of the list of marked places if the call is carried out, and 0 to 64.
 module _ (m : ℕ) (first : List ℕ) (a b : ℕ) (out : List ℕ) where
   pub pack-lowest : AnswersLowest {A = Packed × List ℕ} (fieldsConditions (sizeOf m) a b (length first) (length out)) (λ r. r .0 .refusal)
-      (λ n. (record { refusal = n; bits = 0 }, out)) (packAnswer m first a b out, packedOut m first a b out)
+      (λ n. (record { refusal = n; count = 0; bits = 0 }, out)) (packAnswer m first a b out, packedOut m first a b out)
   pack-lowest = fields-lowest (sizeOf m) a b (length first) (length out) (packInto m (cut a b first) out) out
 
   pub unpack-lowest : AnswersLowest {A = Packed × List ℕ} (fieldsConditions (sizeOf m) a b (length out) (length first)) (λ r. r .0 .refusal)
-      (λ n. (record { refusal = n; bits = 0 }, out)) (unpackAnswer m first a b out, unpackedOut m first a b out)
+      (λ n. (record { refusal = n; count = 0; bits = 0 }, out)) (unpackAnswer m first a b out, unpackedOut m first a b out)
   unpack-lowest = fields-lowest (sizeOf m) a b (length out) (length first) (unpackInto m first a b out) out
 
-  pub pack-bits : packAnswer m first a b out .refusal ≡ 0 → packAnswer m first a b out .bits ≡ sizeOf m * (b - a)
+  pub pack-bits : packAnswer m first a b out .bits ≡ packAnswer m first a b out .count * (b - a)
   pack-bits = answer-bits (sizeOf m) a b (length first) (length out)
 
-  pub unpack-bits : unpackAnswer m first a b out .refusal ≡ 0 → unpackAnswer m first a b out .bits ≡ sizeOf m * (b - a)
+  pub pack-count : packAnswer m first a b out .refusal ≡ 0 → packAnswer m first a b out .count ≡ length (marked m 64)
+  pack-count h = answer-count (sizeOf m) a b (length first) (length out) h ∙ sym (length-marked m 64)
+
+  pub pack-count-le : packAnswer m first a b out .count ≤ 64
+  pack-count-le = omega (arith, answer-count-le (sizeOf m) a b (length first) (length out), rank-le m 64)
+
+  pub unpack-bits : unpackAnswer m first a b out .bits ≡ unpackAnswer m first a b out .count * (b - a)
   unpack-bits = answer-bits (sizeOf m) a b (length out) (length first)
+
+  pub unpack-count : unpackAnswer m first a b out .refusal ≡ 0 → unpackAnswer m first a b out .count ≡ length (marked m 64)
+  unpack-count h = answer-count (sizeOf m) a b (length out) (length first) h ∙ sym (length-marked m 64)
+
+  pub unpack-count-le : unpackAnswer m first a b out .count ≤ 64
+  unpack-count-le = omega (arith, answer-count-le (sizeOf m) a b (length out) (length first), rank-le m 64)
 
 positive : {n : ℕ} (k d : ℕ) → n < k * d → 0 < k
 positive zero d h = absurd (omega (arith, zero-mul d))
@@ -155,7 +169,7 @@ module _ (m : ℕ) (hm : m < 2 ^ 64) (ws out : List ℕ) (a b : ℕ) (h : packAn
       ap length packed-is ∙ length-overwritten s (needed (sizeOf m * length (cut a b ws))) out ∙ omega arith
 
   pub calls-unpack-pack : (ys : List ℕ) → b ≤ length ys → length ys ≤ 2048
-      → (unpackAnswer m (packedOut m ws a b out) a b ys ≡ record { refusal = 0; bits = sizeOf m * (b - a) })
+      → (unpackAnswer m (packedOut m ws a b out) a b ys ≡ record { refusal = 0; count = sizeOf m; bits = sizeOf m * (b - a) })
       × (unpackedOut m (packedOut m ws a b out) a b ys ≡ take a ys ++ (map (λ x. bitAnd x m) (cut a b ws) ++ drop b ys))
   calls-unpack-pack ys l u =
       let w = allowed in

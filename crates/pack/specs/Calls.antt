@@ -17,11 +17,12 @@ fieldsConditions k a b own other =
 unfoldable pub fieldsRefusal : ℕ → ℕ → ℕ → ℕ → ℕ → ℕ
 fieldsRefusal k a b own other = lowest (fieldsConditions k a b own other)
 
--- "The answer is the count of bits, k×(b-a)."
+-- "The answer is the count of bits, k×(b-a)." Paper 02, Req 01: "Pack and unpack answer [the count of marked lines] too, beside the bits. A refused call
+-- shows 0."
 unfoldable pub fieldsAnswer : ℕ → ℕ → ℕ → ℕ → ℕ → Packed
 fieldsAnswer k a b own other =
-    cond (eqb (fieldsRefusal k a b own other) 0) (record { refusal = 0; bits = k * (b - a) })
-    (record { refusal = fieldsRefusal k a b own other; bits = 0 })
+    cond (eqb (fieldsRefusal k a b own other) 0) (record { refusal = 0; count = k; bits = k * (b - a) })
+    (record { refusal = fieldsRefusal k a b own other; count = 0; bits = 0 })
 
 -- what the call leaves: what stood there if it is refused
 unfoldable pub leftOf : ℕ → ℕ → ℕ → ℕ → ℕ → List ℕ → List ℕ → List ℕ

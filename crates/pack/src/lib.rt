@@ -8,10 +8,11 @@ ghost use Rattle.pack.specs.Moves.{Parities, Moves};
 ghost use Rattle.pack.specs.Cursor.{cursorStart, Holds, Begins, Puts, PutsPair, Gathers, Copies, finished, Awaits, Takes};
 ghost use Rattle.pack.specs.Calls.{fieldsRefusal, fieldsAnswer, packAnswer, packedOut, unpackAnswer, unpackedOut};
 
-// What a call answers: 0 and the count of bits, or the number of the refusal and a zero.
+// What a call answers: 0, the count of the mask's ones and the number of bits, or the number of the refusal and zeros.
 #[repr(C)]
 pub struct Packed {
     pub refusal: u8,
+    pub count: u32,
     pub bits: u64,
 }
 
@@ -241,12 +242,11 @@ fn write_pairs(moves: [u64; 6], mask: u64, size: u64, words: &[u64], out: &mut [
     cursor.put_pair(size, pair, out)
 }
 
-// internal: room for the fields. The field of each word, one after the other, and zeros up to the end of the last word begun.
-fn write_fields(mask: u64, words: &[u64], out: &mut [u64])
-    requires { ⌜ needed (sizeOf mask * length (now words)) ≤ length (now out) ⌝ }
+// internal: the size of the mask, and room for the fields. The field of each word, one after the other, and zeros up to the end of the last word begun.
+fn write_fields(mask: u64, size: u64, words: &[u64], out: &mut [u64])
+    requires { ⌜ (size ≡ sizeOf mask) × (needed (sizeOf mask * length (now words)) ≤ length (now out)) ⌝ }
     ensures { λ r. ⌜ now (out .exit) ≡ packInto mask (now (words .entry)) (now (out .entry)) ⌝ }
 {
-    let size = bits::count(mask);
     if size == 64 {
         copy_words(words.len(), words, out);
         return;
@@ -291,12 +291,11 @@ fn read_pairs(moves: [u64; 6], mask: u64, size: u64, packed: &[u64], out: &mut [
     }
 }
 
-// internal: words enough for the fields. Each field scattered into a word of `out`.
-fn read_fields(mask: u64, packed: &[u64], out: &mut [u64])
-    requires { ⌜ needed (sizeOf mask * length (now out)) ≤ length (now packed) ⌝ }
+// internal: the size of the mask, and words enough for the fields. Each field scattered into a word of `out`.
+fn read_fields(mask: u64, size: u64, packed: &[u64], out: &mut [u64])
+    requires { ⌜ (size ≡ sizeOf mask) × (needed (sizeOf mask * length (now out)) ≤ length (now packed)) ⌝ }
     ensures { λ r. ⌜ now (out .exit) ≡ upTo (length (now (out .entry))) (scatteredAt mask (now (packed .entry))) ⌝ }
 {
-    let size = bits::count(mask);
     let len = out.len();
     if size == 64 {
         copy_words(len, packed, out);
@@ -343,15 +342,18 @@ fn answer(size: u64, a: usize, b: usize, own: usize, other: usize) -> Packed
     requires { ⌜ size ≤ 64 ⌝ }
     ensures { λ r. ⌜ r ≡ fieldsAnswer size a b own other ⌝ }
 {
-    let refused = refusal(size, a, b, own, other);
-    if refused != 0 {
+    let count = size as u32;
+    let number = refusal(size, a, b, own, other);
+    if number != 0 {
         return Packed {
-            refusal: refused,
+            refusal: number,
+            count: 0,
             bits: 0,
         };
     }
     Packed {
         refusal: 0,
+        count,
         bits: size * ((b - a) as u64),
     }
 }
@@ -361,11 +363,12 @@ pub fn pack(mask: u64, words: &[u64], a: usize, b: usize, out: &mut [u64]) -> Pa
     ensures { λ r. ⌜ (r ≡ packAnswer mask (now (words .entry)) a b (now (out .entry)))
         × (now (out .exit) ≡ packedOut mask (now (words .entry)) a b (now (out .entry))) ⌝ }
 {
-    let answered = answer(bits::count(mask), a, b, words.len(), out.len());
+    let size = bits::count(mask);
+    let answered = answer(size, a, b, words.len(), out.len());
     if answered.refusal != 0 {
         return answered;
     }
-    write_fields(mask, &words[a..b], out);
+    write_fields(mask, size, &words[a..b], out);
     answered
 }
 
@@ -374,10 +377,11 @@ pub fn unpack(mask: u64, packed: &[u64], a: usize, b: usize, out: &mut [u64]) ->
     ensures { λ r. ⌜ (r ≡ unpackAnswer mask (now (packed .entry)) a b (now (out .entry)))
         × (now (out .exit) ≡ unpackedOut mask (now (packed .entry)) a b (now (out .entry))) ⌝ }
 {
-    let answered = answer(bits::count(mask), a, b, out.len(), packed.len());
+    let size = bits::count(mask);
+    let answered = answer(size, a, b, out.len(), packed.len());
     if answered.refusal != 0 {
         return answered;
     }
-    read_fields(mask, packed, &mut out[a..b]);
+    read_fields(mask, size, packed, &mut out[a..b]);
     answered
 }

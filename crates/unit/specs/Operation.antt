@@ -73,7 +73,8 @@ loads k x y =
 unfoldable pub loadOf : Bank → ℕ → ℕ → ℕ → Bank
 loadOf k r1 x y = tableEntry r1 (loads k x y) k
 
--- The table, by kind: the bank k after an operation with x and y in r2 and r3
+-- The table, by kind: the bank k after an operation with x and y in r2 and r3. Paper 02, Req 01, of the count of marked lines: "Kinds 6, 7 and 10 of the
+-- register unit do not store it."
 abbrev pub effects : Bank → ℕ → ℕ → ℕ → List (ℕ × Bank)
 effects k r1 x y =
     (1, withRegister k r1 (butterflyOf 6 (stagesOf (k .b)) x))

@@ -83,7 +83,8 @@ trait Peer: Fn(u64, u64) -> u64 + 'static {}
 
 impl<F: Fn(u64, u64) -> u64 + 'static> Peer for F {}
 
-/// The library's call beside its peer of parallel suffixes.
+/// The library's call beside its peer of parallel suffixes. Peers answer the word
+/// alone: the count of marked bits is in the library's time only.
 fn beside(library: OfMask, by: &'static str, peer: impl Peer) -> Contest<(u64, u64), u64> {
     Contest::of(
         |random| (random.word(), random.word()),

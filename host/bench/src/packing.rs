@@ -20,7 +20,8 @@ pub const ALL_MARKED: Mask = |_| u64::MAX;
 const MASKS: [(&str, Mask); 2] = [("colour", COLOUR), ("random mask", Random::word)];
 
 /// A call of a mask and two lists of words: packs all words of the first, or unpacks
-/// into all words of the second. It answers the count of bits.
+/// into all words of the second. It answers how many bits these are, without the
+/// count of marked ones.
 pub type OfWords = fn(u64, &[u64], &mut [u64]) -> u64;
 
 /// Pack or unpack, as the library offers it.
@@ -167,7 +168,7 @@ impl Packing {
 }
 
 /// Lists, and what the library's call answers and makes of them: a contest checks
-/// only the count of bits.
+/// only how many bits there are.
 struct Sample {
     lists: WordLists,
     expected: (u64, Vec<u64>),

@@ -22,7 +22,7 @@ is w for short.
 const EXAMPLES: [Example; 3] = [
     Example {
         call: "gather 8 0xAD 0xB6",
-        prints: "0x1A",
+        prints: "0x1A 5",
     },
     Example {
         call: "route 8 0,4,2,3,1,5,6,7",

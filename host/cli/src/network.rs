@@ -186,7 +186,7 @@ mod tests {
                 );
                 assert_eq!(inverse(width, &decoded.inverse, 1 << bit), Ok(1 << come));
                 if bit < mask.count_ones() {
-                    assert_eq!(scatter(width, mask, 1 << bit), Ok(1 << gone));
+                    assert_eq!(scatter(width, mask, 1 << bit).unwrap().word, 1 << gone);
                 }
             });
         }

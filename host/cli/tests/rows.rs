@@ -1,4 +1,5 @@
-//! The rows of examples of paper 01.
+//! The rows of examples of paper 01, with the count that request 01 of paper 02
+//! puts beside their answers.
 
 mod support;
 
@@ -17,9 +18,16 @@ fn assert_prints(line: &str, lines: &[&str]) {
 
 #[test]
 fn rows_1_to_3_by_a_mask() {
-    assert_prints("gather 8 0xAD 0xB6", &["0x1A"]);
-    assert_prints("scatter 8 0xAD 0x1A", &["0xA4"]);
-    assert_prints("group 8 0xAD 0xB6", &["0x7A"]);
+    assert_prints("gather 8 0xAD 0xB6", &["0x1A 5"]);
+    assert_prints("scatter 8 0xAD 0x1A", &["0xA4 5"]);
+    assert_prints("group 8 0xAD 0xB6", &["0x7A 5"]);
+}
+
+#[test]
+fn no_marks_count_0_and_all_count_the_width() {
+    assert_prints("gather 8 0 0xB6", &["0x0 0"]);
+    assert_prints("scatter 16 FFFF 0xB6", &["0xB6 16"]);
+    assert_prints("group 32 FFFFFFFF 0xB6", &["0xB6 32"]);
 }
 
 #[test]
@@ -80,17 +88,17 @@ fn rows_10_and_10b_run() {
 
 #[test]
 fn row_11_pack_and_back() {
-    let packed = "0x6005004003002001,0x9A";
-    assert_prints("pack 0xFFF 1,2,3,4,5,0x9A6 0 6", &["72 bits", packed]);
+    let (counts, packed) = ("72 bits, count 12", "0x6005004003002001,0x9A");
+    assert_prints("pack 0xFFF 1,2,3,4,5,0x9A6 0 6", &[counts, packed]);
     let words = "0x1,0x2,0x3,0x4,0x5,0x9A6";
-    assert_prints(&format!("unpack 0xFFF {packed} 0 6"), &["72 bits", words]);
+    assert_prints(&format!("unpack 0xFFF {packed} 0 6"), &[counts, words]);
 }
 
 #[test]
 fn rows_12_and_13_at_width_64() {
     let line = "gather 64 0x0FFF0FFF0FFF0FFF 0x0123045607890ABC";
-    assert_prints(line, &["0x123456789ABC"]);
-    assert_prints("group 64 FFFFFFFFFFFFFFFF 5", &["0x5"]);
+    assert_prints(line, &["0x123456789ABC 48"]);
+    assert_prints("group 64 FFFFFFFFFFFFFFFF 5", &["0x5 64"]);
 }
 
 #[test]
@@ -101,21 +109,16 @@ fn controls_can_be_given_again() {
 
 #[test]
 fn words_that_are_lent() {
-    let call = "pack 0xFFF 1,2,3,4,5,0x9A6";
-    assert_prints(&format!("{call} 0 2 --out 7,7"), &["24 bits", "0x2001,0x7"]);
-    assert_prints(
-        &format!("{call} 0 2 --length 2"),
-        &["24 bits", "0x2001,0x0"],
-    );
-    assert_prints(&format!("{call} 3 3"), &["0 bits"]);
+    let (call, counts) = ("pack 0xFFF 1,2,3,4,5,0x9A6", "24 bits, count 12");
+    assert_prints(&format!("{call} 0 2 --out 7,7"), &[counts, "0x2001,0x7"]);
+    assert_prints(&format!("{call} 0 2 --length 2"), &[counts, "0x2001,0x0"]);
+    assert_prints(&format!("{call} 3 3"), &["0 bits, count 12"]);
     let call = "unpack 0xFFF 0x2001";
-    let lines = ["24 bits", "0x9,0x1,0x2,0x9"];
+    let lines = [counts, "0x9,0x1,0x2,0x9"];
     assert_prints(&format!("{call} 1 3 --out 9,9,9,9"), &lines);
-    assert_prints(&format!("{call} 1 3"), &["24 bits", "0x0,0x1,0x2"]);
-    assert_prints(
-        "unpack 0 0 2 4 --out 9,9,9,9",
-        &["0 bits", "0x9,0x9,0x0,0x0"],
-    );
+    assert_prints(&format!("{call} 1 3"), &[counts, "0x0,0x1,0x2"]);
+    let lines = ["0 bits, count 0", "0x9,0x9,0x0,0x0"];
+    assert_prints("unpack 0 0 2 4 --out 9,9,9,9", &lines);
 }
 
 #[test]

@@ -3,6 +3,7 @@
 use crate::controls::Controls;
 use crate::guards::{only_read, only_read_array};
 use model::decoder::Decoded;
+use model::gather::Gathered;
 use model::prepared::Swaps;
 use model::refusal::Answer;
 use model::routing::Routed;
@@ -43,26 +44,26 @@ pub struct Call<X: By + ?Sized, R = u64, W = u64> {
 }
 
 /// Gather.
-pub const GATHER: Call<u64> = Call {
+pub const GATHER: Call<u64, Gathered> = Call {
     name: "gather",
     raw: |width, mask, word| gathered(tigbayon::tb_gather(width, mask, word)),
-    wrapped: tigbayon::gather,
+    wrapped: |width, mask, word| tigbayon::gather(width, mask, word).map(wrapped_gathered),
     model: model::gather::gather,
 };
 
 /// Scatter.
-pub const SCATTER: Call<u64> = Call {
+pub const SCATTER: Call<u64, Gathered> = Call {
     name: "scatter",
     raw: |width, mask, word| gathered(tigbayon::tb_scatter(width, mask, word)),
-    wrapped: tigbayon::scatter,
+    wrapped: |width, mask, word| tigbayon::scatter(width, mask, word).map(wrapped_gathered),
     model: model::gather::scatter,
 };
 
 /// Group.
-pub const GROUP: Call<u64> = Call {
+pub const GROUP: Call<u64, Gathered> = Call {
     name: "group",
     raw: |width, mask, word| gathered(tigbayon::tb_group(width, mask, word)),
-    wrapped: tigbayon::group,
+    wrapped: |width, mask, word| tigbayon::group(width, mask, word).map(wrapped_gathered),
     model: model::gather::group,
 };
 
@@ -179,7 +180,7 @@ pub const ROUTE_INVERSE: Call<[u8], Controls, ()> = Call {
 };
 
 /// Every call of width, mask and word.
-pub const MASK_CALLS: [Call<u64>; 3] = [GATHER, SCATTER, GROUP];
+pub const MASK_CALLS: [Call<u64, Gathered>; 3] = [GATHER, SCATTER, GROUP];
 
 /// Both networks.
 pub const NETWORKS: [Call<Controls>; 2] = [BUTTERFLY, INVERSE];
@@ -215,6 +216,13 @@ where
     }
 }
 
+impl Call<u64, Gathered> {
+    /// The word of such a result.
+    pub fn word(&self, width: u32, mask: u64, word: u64) -> u64 {
+        self.result(width, mask, word).word
+    }
+}
+
 /// Panics unless library, model and wrapper answer this input alike.
 pub(crate) fn assert_agree<R: Copy + Debug + PartialEq>(
     input: impl Fn() -> String,
@@ -240,7 +248,11 @@ pub(crate) fn assert_agree<R: Copy + Debug + PartialEq>(
 }
 
 /// Checks these calls on one input.
-pub fn check_all<X: By>(calls: &[Call<X>], width: u32, by: X::Input<'_>, word: u64) {
+pub fn check_all<X, R>(calls: &[Call<X, R>], width: u32, by: X::Input<'_>, word: u64)
+where
+    X: By,
+    R: Copy + Debug + PartialEq,
+{
     for call in calls {
         call.check(width, by, word);
     }
@@ -256,9 +268,18 @@ pub fn route(width: u32, permutation: &[u8]) -> Routed {
     ROUTE.result(width, permutation, ())
 }
 
-fn gathered(TbGathered { refusal, word }: TbGathered) -> Answer<u64> {
-    let result = word;
+fn gathered(answer: TbGathered) -> Answer<Gathered> {
+    let TbGathered {
+        refusal,
+        count,
+        word,
+    } = answer;
+    let result = Gathered { count, word };
     Answer { refusal, result }
+}
+
+fn wrapped_gathered(tigbayon::Gathered { count, word }: tigbayon::Gathered) -> Gathered {
+    Gathered { count, word }
 }
 
 fn carried(TbCarried { refusal, word }: TbCarried) -> Answer<u64> {

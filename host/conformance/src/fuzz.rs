@@ -12,6 +12,7 @@ use crate::programs::bank;
 use crate::samples::{any_controls, any_swaps, any_word, Random};
 use crate::unit::{operate, read, run, write};
 use crate::WIDTHS;
+use model::gather::Gathered;
 use model::prepared::Swaps;
 use model::refusal::NONE;
 use std::fmt::{self, Debug, Display, Formatter};
@@ -91,7 +92,7 @@ const fn target(
     }
 }
 
-fn masked(random: &mut Random, call: Call<u64>) -> u8 {
+fn masked(random: &mut Random, call: Call<u64, Gathered>) -> u8 {
     let (handed, width) = widths(random);
     let mask = word(random, width);
     call.check(handed, mask, word(random, width)).refusal

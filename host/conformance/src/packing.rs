@@ -3,6 +3,7 @@
 use crate::call::assert_agree;
 use crate::guards::{lent, only_read};
 use crate::samples::{random_words, Random};
+use model::packing::Packed;
 use model::refusal::Answer;
 use tigbayon::{Refusal, TbPacked};
 
@@ -22,9 +23,9 @@ pub struct PackingCall {
     /// The call's name.
     pub name: &'static str,
     cuts_first: bool,
-    raw: OfWords<Answer<u64>>,
-    wrapped: OfWords<Result<u64, Refusal>>,
-    model: OfWords<Answer<u64>>,
+    raw: OfWords<Answer<Packed>>,
+    wrapped: OfWords<Result<Packed, Refusal>>,
+    model: OfWords<Answer<Packed>>,
 }
 
 /// Pack.
@@ -32,7 +33,7 @@ pub const PACK: PackingCall = PackingCall {
     name: "pack",
     cuts_first: true,
     raw: |mask, words, a, b, out| packed(tigbayon::tb_pack(mask, words, a, b, out)),
-    wrapped: |mask, words, a, b, out| tigbayon::pack(mask, words, a..b, out),
+    wrapped: |mask, words, a, b, out| tigbayon::pack(mask, words, a..b, out).map(wrapped_packed),
     model: model::packing::pack,
 };
 
@@ -41,7 +42,7 @@ pub const UNPACK: PackingCall = PackingCall {
     name: "unpack",
     cuts_first: false,
     raw: |mask, words, a, b, out| packed(tigbayon::tb_unpack(mask, words, a, b, out)),
-    wrapped: |mask, words, a, b, out| tigbayon::unpack(mask, words, a..b, out),
+    wrapped: |mask, words, a, b, out| tigbayon::unpack(mask, words, a..b, out).map(wrapped_packed),
     model: model::packing::unpack,
 };
 
@@ -59,7 +60,7 @@ impl PackingCall {
         a: usize,
         b: usize,
         out: &mut [u64],
-    ) -> Answer<u64> {
+    ) -> Answer<Packed> {
         let input = || format!("{} {mask:x} {first:x?} {a} {b} {out:x?}", self.name);
         let (library, written) = lent(out, |out| {
             only_read(first, |first| (self.raw)(mask, first, a, b, out))
@@ -79,7 +80,8 @@ impl PackingCall {
     }
 
     /// Checks that the call is refused by this number and leaves every word as
-    /// it was, or, if it is 0, that it is carried out and counts its bits.
+    /// it was, or, if it is 0, that it is carried out and counts the marked bits
+    /// and those of all fields.
     pub fn assert_number(
         &self,
         number: u8,
@@ -93,7 +95,8 @@ impl PackingCall {
         let answer = self.check(mask, first, a, b, out);
         assert_eq!(answer.refusal, number, "{} {}", input(), out.len());
         if number == 0 {
-            assert_eq!(answer.result, bits(mask, a, b), "{}", input());
+            let (count, bits) = (mask.count_ones(), bits(mask, a, b));
+            assert_eq!(answer.result, Packed { count, bits }, "{}", input());
         } else {
             assert_eq!(answer, Answer::refused(number), "{}", input());
             assert!(out == before, "{}", input());
@@ -123,7 +126,16 @@ pub fn words_needed(mask: u64, a: usize, b: usize) -> usize {
     bits(mask, a, b).div_ceil(64) as usize
 }
 
-fn packed(TbPacked { refusal, bits }: TbPacked) -> Answer<u64> {
-    let result = bits;
+fn packed(answer: TbPacked) -> Answer<Packed> {
+    let TbPacked {
+        refusal,
+        count,
+        bits,
+    } = answer;
+    let result = Packed { count, bits };
     Answer { refusal, result }
+}
+
+fn wrapped_packed(tigbayon::Packed { count, bits }: tigbayon::Packed) -> Packed {
+    Packed { count, bits }
 }

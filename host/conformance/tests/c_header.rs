@@ -26,17 +26,17 @@ const PREPARED: &str = "\
 
 /// What pack and unpack answer, and the words then.
 const PACKING: &str = "\
-    pack 0 72: 6005004003002001 9a 7\n\
-    unpack 0 72: 7 1 2 3 4 5 9a6 7\n\
-    pack 10 0: 6005004003002001 9a 7\n\
-    pack 9 0: 6005004003002001 9a 7\n\
-    unpack 10 0: 7 1 2 3 4 5 9a6 7\n\
-    unpack 9 0: 7 1 2 3 4 5 9a6 7\n\
-    pack 0 0:\n\
-    unpack 0 0:\n\
-    pack 9 0:\n\
-    pack 10 0:\n\
-    unpack 0 0: 7 0 0 0 0 0 0 7\n\
+    pack 0 12 72: 6005004003002001 9a 7\n\
+    unpack 0 12 72: 7 1 2 3 4 5 9a6 7\n\
+    pack 10 0 0: 6005004003002001 9a 7\n\
+    pack 9 0 0: 6005004003002001 9a 7\n\
+    unpack 10 0 0: 7 1 2 3 4 5 9a6 7\n\
+    unpack 9 0 0: 7 1 2 3 4 5 9a6 7\n\
+    pack 0 64 0:\n\
+    unpack 0 64 0:\n\
+    pack 9 0 0:\n\
+    pack 10 0 0:\n\
+    unpack 0 0 0: 7 0 0 0 0 0 0 7\n\
     words: 1 2 3 4 5 9a6\n";
 
 /// What it prints of the register unit.
@@ -109,12 +109,12 @@ fn layouts() -> String {
             )
         };
     }
-    layout!(TbGathered, refusal, word)
+    layout!(TbGathered, refusal, count, word)
         + &layout!(TbCarried, refusal, word)
         + &layout!(TbPrepared, refusal, swaps)
         + &layout!(TbControls1, refusal, stages)
         + &layout!(TbControls2, refusal, butterfly, inverse)
-        + &layout!(TbPacked, refusal, bits)
+        + &layout!(TbPacked, refusal, count, bits)
         + &layout!(TbBank, general, b, ib)
         + &layout!(TbCycles, refusal, cycles)
         + &layout!(TbRun, refusal, end, ran, cycles)
@@ -124,12 +124,14 @@ fn layouts() -> String {
 fn expected() -> String {
     let numbers = Refusal::ALL.map(|refusal| format!(" {}", refusal.number()));
     let answers = "\
-        gather 0 1a\n\
-        scatter 0 a4\n\
-        group 0 7a\n\
-        gather 1 0\n\
-        scatter 2 0\n\
-        group 0 5\n\
+        gather 0 5 1a\n\
+        scatter 0 5 a4\n\
+        group 0 5 7a\n\
+        gather 1 0 0\n\
+        scatter 2 0 0\n\
+        group 0 64 5\n\
+        gather 0 0 0\n\
+        group 2 0 0\n\
         decode 0 7 1 5 0 0 0 5 1 7 0 0 0\n\
         decode 0 0 0 0 0 0 0 0 0 0 0 0 0\n\
         decode 2 0 0 0 0 0 0 0 0 0 0 0 0\n\
@@ -181,7 +183,7 @@ fn readme() {
     let file = temporary("readme.c");
     fs::write(&file, program).expect("a file");
     let program = compile(&C, &file, "readme");
-    assert_eq!(printed(&mut Command::new(program)), "123456789abc\n");
+    assert_eq!(printed(&mut Command::new(program)), "123456789abc 48\n");
 }
 
 /// Of the C library the archive needs memcpy and memset alone.

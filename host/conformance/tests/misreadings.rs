@@ -1,22 +1,24 @@
-//! The misreadings that paper 01 warns of ("False splices"): the library has none
-//! of them, and each would be seen. Group by a shift of 64 is among the laws and
-//! is row 13.
+//! The misreadings that paper 01 warns of ("False splices"), and those of request
+//! 01 of paper 02, the count of marked bits: the library has none of them, and
+//! each would be seen. Group by a shift of 64 is among the laws and is row 13.
 
-use conformance::call::{decode, BUTTERFLY, GATHER, INVERSE, NETWORKS, SCATTER};
+use conformance::call::{decode, BUTTERFLY, GATHER, INVERSE, MASK_CALLS, NETWORKS, SCATTER};
 use conformance::controls::{pass_all, reversed, stages, Controls};
+use conformance::packing::PACKING_CALLS;
 use conformance::samples::for_each;
 use conformance::{low_ones, WIDTHS};
+use model::refusal::Answer;
 
 /// Whether the butterfly of width 8 scatters by the mask on these controls.
 fn scatters(mask: u64, controls: Controls) -> bool {
     let carried = |word| BUTTERFLY.result(8, controls, word) & mask;
-    (0..=0xFF).all(|word| carried(word) == SCATTER.result(8, mask, word))
+    (0..=0xFF).all(|word| carried(word) == SCATTER.word(8, mask, word))
 }
 
 /// Whether the inverse of width 8 gathers by the mask on these controls.
 fn gathers(mask: u64, controls: Controls) -> bool {
     let carried = |word| INVERSE.result(8, controls, word & mask);
-    (0..=0xFF).all(|word| carried(word) == GATHER.result(8, mask, word))
+    (0..=0xFF).all(|word| carried(word) == GATHER.word(8, mask, word))
 }
 
 /// "Algorithm 1's printed count loop starts at place 1. The last column needs
@@ -86,4 +88,53 @@ fn the_inverse_has_reversed_stages_and_not_reversed_bits() {
     assert!(gathers(0xAD, reversed(8, controls)));
     assert!(!gathers(0xAD, reversed_bits));
     assert!(!gathers(0xAD, reversed(8, reversed_bits)));
+}
+
+/// "the count of marked lines", not of the others: at width 8 these are as many
+/// for a mask of four ones alone.
+#[test]
+fn marked_bits_are_counted_and_not_the_others() {
+    for mask in 0..=0xFF_u64 {
+        for call in MASK_CALLS {
+            let count = call.result(8, mask, 0xB6).count;
+            let misread = mask.count_zeros() - 56;
+            assert_eq!(count == misread, mask.count_ones() == 4);
+        }
+    }
+}
+
+/// "0 to w": a count of 64 needs seven bits. In six, a mask of 64 ones, and no
+/// other, would count as one of none.
+#[test]
+fn a_count_of_64_is_not_0() {
+    for width in WIDTHS {
+        for mask in [0, 1, low_ones(width - 1), low_ones(width)] {
+            for call in MASK_CALLS {
+                let count = call.result(width, mask, 0).count;
+                let misread = count & 0x3F;
+                assert_eq!(count == misread, mask != u64::MAX);
+            }
+        }
+    }
+    for call in PACKING_CALLS {
+        let count = call.check(u64::MAX, &[5], 0, 1, &mut [7]).result.count;
+        assert_eq!((count, count & 0x3F), (64, 0));
+    }
+}
+
+/// "A refused call shows 0", and not the count of its mask.
+#[test]
+fn a_refused_call_does_not_count_its_mask() {
+    for call in MASK_CALLS {
+        let misread = call.result(8, 0xAD, 0).count;
+        let answer = call.check(8, 0xAD, 0x100);
+        assert_eq!(answer, Answer::refused(2));
+        assert_ne!(answer.result.count, misread);
+    }
+    for call in PACKING_CALLS {
+        let misread = call.check(0xFFF, &[1], 0, 1, &mut [7]).result.count;
+        let answer = call.check(0xFFF, &[1], 1, 0, &mut [7]);
+        assert_eq!(answer, Answer::refused(9));
+        assert_ne!(answer.result.count, misread);
+    }
 }

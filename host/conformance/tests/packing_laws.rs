@@ -1,10 +1,11 @@
-//! What paper 01 says of packed words ("Strips"), asked of the library.
+//! What paper 01 ("Strips") and request 01 of paper 02 say of packed words, asked
+//! of the library.
 
 use conformance::low_ones;
 use conformance::packing::{bits, words_needed};
 use conformance::samples::{for_each, random_words, Random};
 use std::iter::zip;
-use tigbayon::{gather, pack, scatter, unpack, Refusal};
+use tigbayon::{gather, pack, scatter, unpack, Packed, Refusal};
 
 type Outcome = Result<(), Refusal>;
 
@@ -24,8 +25,27 @@ fn holds(law: impl Fn(&mut Random, u64, &[u64], usize, usize) -> Outcome) {
 /// The fields of words a to b-1, in no more words than they need.
 fn packed(mask: u64, words: &[u64], a: usize, b: usize) -> Result<Vec<u64>, Refusal> {
     let mut packed = vec![u64::MAX; words_needed(mask, a, b)];
-    assert_eq!(pack(mask, words, a..b, &mut packed)?, bits(mask, a, b));
+    let answer = pack(mask, words, a..b, &mut packed)?;
+    assert_eq!(answer.bits, bits(mask, a, b));
     Ok(packed)
+}
+
+/// "Pack and unpack answer it too, beside the bits": gather's count, even with no
+/// field, and as many bits for each.
+#[test]
+fn both_count_the_bits_of_a_field_and_those_of_all() {
+    holds(|_, mask, words, a, b| {
+        let count = gather(64, mask, 0)?.count;
+        for (a, b) in [(a, b), (a, a)] {
+            let bits = u64::from(count) * (b - a) as u64;
+            let mut out = words.to_vec();
+            let answer = pack(mask, words, a..b, &mut out)?;
+            assert_eq!(answer, Packed { count, bits });
+            let answer = unpack(mask, words, a..b, &mut out)?;
+            assert_eq!(answer, Packed { count, bits });
+        }
+        Ok(())
+    });
 }
 
 #[test]
@@ -34,7 +54,8 @@ fn unpack_after_pack_zeroes_the_unmarked_bits() {
         let packed = packed(mask, words, a, b)?;
         let before = random_words(random, words.len());
         let mut out = before.clone();
-        assert_eq!(unpack(mask, &packed, a..b, &mut out)?, bits(mask, a, b));
+        let answer = unpack(mask, &packed, a..b, &mut out)?;
+        assert_eq!(answer.bits, bits(mask, a, b));
         for (out, word) in zip(&out[a..b], &words[a..b]) {
             assert_eq!(*out, word & mask);
         }
@@ -52,7 +73,7 @@ fn bits_of_the_stream_are_bits_of_the_gathered_words() {
         let packed = packed(mask, words, a, b)?;
         let k = mask.count_ones() as usize;
         for n in 0..k * (b - a) {
-            let field = gather(64, mask, words[a + n / k])?;
+            let field = gather(64, mask, words[a + n / k])?.word;
             assert_eq!(packed[n / 64] >> (n % 64) & 1, field >> (n % k) & 1);
         }
         Ok(())
@@ -103,14 +124,12 @@ fn one_field_is_gather_and_scatter() {
     for_each(64, 200, |mask, word| {
         let mut out = [!word];
         pack(mask, &[word], 0..1, &mut out).expect("not refused");
-        let gathered = if mask == 0 {
-            Ok(!word)
-        } else {
-            gather(64, mask, word)
-        };
-        assert_eq!(Ok(out[0]), gathered);
+        let gathered = gather(64, mask, word).expect("not refused");
+        let field = if mask == 0 { !word } else { gathered.word };
+        assert_eq!(out, [field]);
         unpack(mask, &[word], 0..1, &mut out).expect("not refused");
-        assert_eq!(Ok(out[0]), scatter(64, mask, word));
+        let scattered = scatter(64, mask, word).expect("not refused");
+        assert_eq!(out, [scattered.word]);
     });
 }
 
@@ -119,10 +138,11 @@ fn one_field_is_gather_and_scatter() {
 fn no_marked_bits() {
     holds(|_, _, words, a, b| {
         let mut out = words.to_vec();
-        assert_eq!(pack(0, words, a..b, &mut out)?, 0);
+        let nothing = Packed { count: 0, bits: 0 };
+        assert_eq!(pack(0, words, a..b, &mut out)?, nothing);
         assert_eq!(out, words);
-        assert_eq!(pack(0, words, a..b, &mut [])?, 0);
-        assert_eq!(unpack(0, &[], a..b, &mut out)?, 0);
+        assert_eq!(pack(0, words, a..b, &mut [])?, nothing);
+        assert_eq!(unpack(0, &[], a..b, &mut out)?, nothing);
         assert!(out[a..b].iter().all(|&word| word == 0));
         Ok(())
     });
@@ -133,7 +153,8 @@ fn all_bits_marked_copies_the_words() {
     holds(|random, _, words, a, b| {
         assert_eq!(packed(u64::MAX, words, a, b)?, words[a..b]);
         let mut out = random_words(random, words.len());
-        unpack(u64::MAX, &words[a..b], a..b, &mut out)?;
+        let answer = unpack(u64::MAX, &words[a..b], a..b, &mut out)?;
+        assert_eq!(answer.count, 64);
         assert_eq!(out[a..b], words[a..b]);
         Ok(())
     });

@@ -6,6 +6,7 @@ use conformance::call::{decode, BUTTERFLY, GATHER, GROUP, SCATTER};
 use conformance::controls::stages;
 use conformance::samples::for_each;
 use conformance::{low_ones, WIDTHS};
+use model::gather::Gathered;
 
 /// Bit 7 of an 8-bit word is a, bit 0 is h, as in Fig. 6; '0' is a zero.
 fn letters(pattern: &str, word: u64) -> u64 {
@@ -23,7 +24,7 @@ fn letters(pattern: &str, word: u64) -> u64 {
 #[test]
 fn fig_6_pdep() {
     for word in 0..=0xFF {
-        let result = SCATTER.result(8, 0b1010_1101, word);
+        let result = SCATTER.word(8, 0b1010_1101, word);
         assert_eq!(result, letters("d0e0fg0h", word));
     }
 }
@@ -32,7 +33,7 @@ fn fig_6_pdep() {
 #[test]
 fn fig_6_mask_pex() {
     for word in 0..=0xFF {
-        let result = GATHER.result(8, 0b1010_1101, word);
+        let result = GATHER.word(8, 0b1010_1101, word);
         assert_eq!(result, letters("000acefh", word));
     }
 }
@@ -42,7 +43,7 @@ fn fig_6_mask_pex() {
 #[test]
 fn fig_6_mask_grp() {
     for word in 0..=0xFF {
-        let result = GROUP.result(8, 0b1010_1101, word);
+        let result = GROUP.word(8, 0b1010_1101, word);
         assert_eq!(result, letters("bdgacefh", word));
     }
 }
@@ -111,14 +112,14 @@ fn last_stage_is_the_lowest_bit_of_each_count() {
 fn compare_of_16_bit_subwords_to_bit_mask() {
     let one_bit_each = 0x0001_0001_0001_0001;
     let compared = 0xFFFF_0000_FFFF_FFFF;
-    assert_eq!(GATHER.result(64, one_bit_each, compared), 0b1011);
+    assert_eq!(GATHER.word(64, one_bit_each, compared), 0b1011);
 }
 
 /// Section 5.1: pmovmskb, "the most significant bit from each byte".
 #[test]
 fn pmovmskb() {
     let word = 0x8000_FF7F_0181_00C0;
-    assert_eq!(GATHER.result(64, 0x8080_8080_8080_8080, word), 0b1010_0101);
+    assert_eq!(GATHER.word(64, 0x8080_8080_8080_8080, word), 0b1010_0101);
 }
 
 /// Section 5.1, Fig. 20: bwpack and bwunpack, "8 bits in parallel from 8
@@ -127,8 +128,8 @@ fn pmovmskb() {
 fn bwpack_and_bwunpack() {
     let low_bits = 0x0101_0101_0101_0101;
     let pixels = 0x0100_0101_0000_0100;
-    assert_eq!(GATHER.result(64, low_bits, pixels), 0b1011_0010);
-    assert_eq!(SCATTER.result(64, low_bits, 0b1011_0010), pixels);
+    assert_eq!(GATHER.word(64, low_bits, pixels), 0b1011_0010);
+    assert_eq!(SCATTER.word(64, low_bits, 0b1011_0010), pixels);
 }
 
 /// Section 5.2, Fig. 21: "the four least significant bits from each 16-bit
@@ -137,10 +138,10 @@ fn bwpack_and_bwunpack() {
 fn steganography_in_16_bit_samples() {
     let low_bits = 0x000F_000F_000F_000F;
     let samples = 0x1234_5678_9ABC_DEF0;
-    let spread = SCATTER.result(64, low_bits, 0xC0DE);
+    let spread = SCATTER.word(64, low_bits, 0xC0DE);
     assert_eq!(spread, 0x000C_0000_000D_000E);
     let encoded = samples & !low_bits | spread;
-    assert_eq!(GATHER.result(64, low_bits, encoded), 0xC0DE);
+    assert_eq!(GATHER.word(64, low_bits, encoded), 0xC0DE);
 }
 
 /// Section 5.3, Fig. 22: "a 3x3 neighborhood of pixels from register
@@ -151,7 +152,7 @@ fn neighbourhoods_of_3_by_3_pixels() {
     for corner in (0..6).flat_map(|row| (0..6).map(move |column| 8 * row + column)) {
         let shifted = block >> corner;
         let index = shifted & 7 | (shifted >> 8 & 7) << 3 | (shifted >> 16 & 7) << 6;
-        assert_eq!(GATHER.result(64, 0x07_0707 << corner, block), index);
+        assert_eq!(GATHER.word(64, 0x07_0707 << corner, block), index);
     }
 }
 
@@ -161,8 +162,8 @@ fn neighbourhoods_of_3_by_3_pixels() {
 fn uuencode_of_four_fields() {
     let fields = u32::from_be_bytes(*b"\0Cat").into();
     let text = u32::from_be_bytes(*b"0V%T").into();
-    assert_eq!(SCATTER.result(32, 0x3F3F_3F3F, fields) + 0x2020_2020, text);
-    assert_eq!(GATHER.result(32, 0x3F3F_3F3F, text - 0x2020_2020), fields);
+    assert_eq!(SCATTER.word(32, 0x3F3F_3F3F, fields) + 0x2020_2020, text);
+    assert_eq!(GATHER.word(32, 0x3F3F_3F3F, text - 0x2020_2020), fields);
 }
 
 /// Section 5.4: "eight fields are aligned at once", and "a single pex
@@ -173,8 +174,8 @@ fn uuencode_of_eight_fields() {
     let spaces = 0x2020_2020_2020_2020;
     let fields = u64::from_be_bytes(*b"\0\0CatCat");
     let text = u64::from_be_bytes(*b"0V%T0V%T");
-    assert_eq!(SCATTER.result(64, mask, fields) + spaces, text);
-    assert_eq!(GATHER.result(64, mask, text - spaces), fields);
+    assert_eq!(SCATTER.word(64, mask, fields) + spaces, text);
+    assert_eq!(GATHER.word(64, mask, text - spaces), fields);
 }
 
 /// Section 5.5, Fig. 24: "select bits 2 and 1 of each byte of a word"
@@ -182,14 +183,14 @@ fn uuencode_of_eight_fields() {
 #[test]
 fn nucleotides_gcac() {
     let ascii = u32::from_be_bytes(*b"GCAC").into();
-    assert_eq!(GATHER.result(32, 0x0606_0606, ascii), 0b11_01_00_01);
+    assert_eq!(GATHER.word(32, 0x0606_0606, ascii), 0b11_01_00_01);
 }
 
 /// The same for all four letters in a 64-bit word: "fourfold compression".
 #[test]
 fn nucleotides_of_a_64_bit_word() {
     let ascii = u64::from_be_bytes(*b"ACGTTGCA");
-    let codes = GATHER.result(64, 0x0606_0606_0606_0606, ascii);
+    let codes = GATHER.word(64, 0x0606_0606_0606_0606, ascii);
     assert_eq!(codes, 0b00_01_11_10_10_11_01_00);
 }
 
@@ -201,7 +202,7 @@ fn codons_to_bytes() {
     let packed = codons
         .iter()
         .fold(0, |word, &codon| word << 6 | u64::from(codon));
-    let bytes = SCATTER.result(64, 0x3F3F_3F3F_3F3F_3F3F, packed);
+    let bytes = SCATTER.word(64, 0x3F3F_3F3F_3F3F_3F3F, packed);
     assert_eq!(bytes.to_be_bytes(), codons);
 }
 
@@ -217,7 +218,7 @@ fn blastz_seed_of_12_of_19_bases() {
         'G' => 0b11,
         _ => 0b10,
     };
-    let (mut mask, mut word, mut picked) = (0u64, 0, 0);
+    let (mut mask, mut word, mut picked) = (0, 0, 0);
     for (mark, base) in seed.chars().zip(bases.chars()) {
         let marked = mark == '1';
         mask = mask << 2 | if marked { 0b11 } else { 0 };
@@ -226,16 +227,17 @@ fn blastz_seed_of_12_of_19_bases() {
             picked = picked << 2 | code(base);
         }
     }
-    assert_eq!(mask.count_ones(), 24);
-    assert_eq!(GATHER.result(64, mask, word), picked);
+    let result = GATHER.result(64, mask, word);
+    let (count, word) = (24, picked);
+    assert_eq!(result, Gathered { count, word });
 }
 
 /// Section 5.6, Fig. 27: a "14-bit integer encoded in 2 bytes", 7 data bits
 /// and a flag each; here the flag is the byte's top bit.
 #[test]
 fn integer_of_14_bits_in_2_bytes() {
-    assert_eq!(GATHER.result(16, 0x7F7F, 0xD53C), 0x2ABC);
-    assert_eq!(SCATTER.result(16, 0x7F7F, 0x2ABC), 0x553C);
+    assert_eq!(GATHER.word(16, 0x7F7F, 0xD53C), 0x2ABC);
+    assert_eq!(SCATTER.word(16, 0x7F7F, 0x2ABC), 0x553C);
 }
 
 /// Section 5.7: von Neumann's extractor, "if the bits in the pair differ, the
@@ -250,6 +252,6 @@ fn von_neumann_extractor() {
             }
         }
         let mask = (x ^ x << 1) & 0xAAAA_AAAA_AAAA_AAAA;
-        assert_eq!(GATHER.result(64, mask, x), output);
+        assert_eq!(GATHER.word(64, mask, x), output);
     });
 }

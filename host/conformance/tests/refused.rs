@@ -4,6 +4,7 @@ use conformance::call::{DECODE, MASK_CALLS, NETWORKS, PREPARE};
 use conformance::controls::{pass_all, stages, Controls};
 use conformance::refusals::{assert_number, other_widths};
 use conformance::{low_ones, WIDTHS};
+use model::gather::Gathered;
 
 /// Words and masks below, at and above each accepted width.
 const WORDS: [u64; 14] = [
@@ -121,6 +122,30 @@ fn each_single_bit_above_the_width_is_refusal_2() {
                 }
             }
         }
+    }
+}
+
+/// Checks that the calls are refused, and count and answer nothing.
+fn assert_uncounted(width: u32, mask: u64, word: u64) {
+    for call in MASK_CALLS {
+        let answer = call.check(width, mask, word);
+        let (count, word) = (0, 0);
+        assert_ne!(answer.refusal, 0, "{} {width} {mask:x}", call.name);
+        assert_eq!(answer.result, Gathered { count, word });
+    }
+}
+
+/// Request 01 of paper 02: "A refused call shows 0", of a full mask too.
+#[test]
+fn no_marked_bits_are_counted_beside_a_refusal() {
+    for width in other_widths() {
+        assert_uncounted(width, u64::MAX, 0);
+        assert_uncounted(width, low_ones(width.min(64)), 0);
+    }
+    for width in [8, 16, 32] {
+        assert_uncounted(width, low_ones(width + 1), 0);
+        assert_uncounted(width, u64::MAX, 0);
+        assert_uncounted(width, low_ones(width), 1 << width);
     }
 }
 

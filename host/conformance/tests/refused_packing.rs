@@ -1,8 +1,9 @@
-//! Damaged cuts and lists of words get the lowest number that applies, zero bits, and
-//! every word stays as it was.
+//! Damaged cuts and lists of words get the lowest number that applies, zeros for the
+//! rest, and every word stays as it was.
 
 use conformance::packing::{words_needed, COUNTS, LONGEST, PACK, PACKING_CALLS, UNPACK};
 use conformance::samples::{mask_of, Random};
+use model::packing::Packed;
 
 /// The words of row 11 of paper 01.
 const ROW_11: [u64; 6] = [1, 2, 3, 4, 5, 0x9A6];
@@ -123,6 +124,21 @@ fn short_parts_of_the_other_list_are_refusal_10() {
         for short in 0..words_needed(mask, 0, 64) {
             PACK.assert_number(10, mask, &words, (0, 64), &mut other[..short]);
             UNPACK.assert_number(10, mask, &words[..short], (0, 64), &mut other);
+        }
+    }
+}
+
+/// Request 01 of paper 02: "A refused call shows 0", of a full mask too.
+#[test]
+fn no_marked_bits_are_counted_beside_a_refusal() {
+    let mut random = Random::default();
+    for call in PACKING_CALLS {
+        for (number, (a, b), other) in [(9, (3, 2), 6), (9, (0, 7), 6), (10, (0, 6), 5)] {
+            let (first, mut second) = call.lists(&mut random, 6, other);
+            let answer = call.check(u64::MAX, &first, a, b, &mut second);
+            let (count, bits) = (0, 0);
+            assert_eq!(answer.refusal, number);
+            assert_eq!(answer.result, Packed { count, bits });
         }
     }
 }

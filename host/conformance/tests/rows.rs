@@ -1,23 +1,29 @@
-//! The rows of examples of paper 01.
+//! The rows of examples of paper 01, with the count that request 01 of paper 02
+//! puts beside their answers.
 
 use conformance::call::{decode, route, BUTTERFLY, GATHER, GROUP, ROUTE_ONE, SCATTER};
 use conformance::packing::PACK;
 use conformance::unit::{run, Bank, End, Run};
+use model::gather::Gathered;
+use model::packing::Packed;
 use model::refusal::Answer;
 
 #[test]
 fn row_1_gather() {
-    assert_eq!(GATHER.result(8, 0xAD, 0xB6), 0x1A);
+    let (count, word) = (5, 0x1A);
+    assert_eq!(GATHER.result(8, 0xAD, 0xB6), Gathered { count, word });
 }
 
 #[test]
 fn row_2_scatter() {
-    assert_eq!(SCATTER.result(8, 0xAD, 0x1A), 0xA4);
+    let (count, word) = (5, 0xA4);
+    assert_eq!(SCATTER.result(8, 0xAD, 0x1A), Gathered { count, word });
 }
 
 #[test]
 fn row_3_group() {
-    assert_eq!(GROUP.result(8, 0xAD, 0xB6), 0x7A);
+    let (count, word) = (5, 0x7A);
+    assert_eq!(GROUP.result(8, 0xAD, 0xB6), Gathered { count, word });
 }
 
 #[test]
@@ -89,7 +95,8 @@ fn row_10b_run_with_less() {
 fn row_11_pack() {
     let mut out = [7; 2];
     let answer = PACK.check(0xFFF, &[1, 2, 3, 4, 5, 0x9A6], 0, 6, &mut out);
-    let (refusal, result) = (0, 72);
+    let (count, bits) = (12, 72);
+    let (refusal, result) = (0, Packed { count, bits });
     assert_eq!(answer, Answer { refusal, result });
     assert_eq!(out, [0x6005_0040_0300_2001, 0x9A]);
 }
@@ -97,12 +104,13 @@ fn row_11_pack() {
 /// Demand page: "It takes 12-bit colour out of 16-bit words".
 #[test]
 fn row_12_gather_of_12_bit_colour() {
-    let mask = 0x0FFF_0FFF_0FFF_0FFF;
-    let word = 0x0123_0456_0789_0ABC;
-    assert_eq!(GATHER.result(64, mask, word), 0x1234_5678_9ABC);
+    let result = GATHER.result(64, 0x0FFF_0FFF_0FFF_0FFF, 0x0123_0456_0789_0ABC);
+    let (count, word) = (48, 0x1234_5678_9ABC);
+    assert_eq!(result, Gathered { count, word });
 }
 
 #[test]
 fn row_13_group_by_all_ones() {
-    assert_eq!(GROUP.result(64, u64::MAX, 5), 5);
+    let (count, word) = (64, 5);
+    assert_eq!(GROUP.result(64, u64::MAX, 5), Gathered { count, word });
 }

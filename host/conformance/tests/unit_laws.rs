@@ -1,12 +1,13 @@
-//! What the demands and paper 01 say of the register unit, asked of the
-//! library.
+//! What the demands, paper 01 and request 01 of paper 02 say of the register unit,
+//! asked of the library.
 
 use conformance::programs::{bank, cycles, program, FORMS};
 use conformance::samples::{for_each, for_each_permutation, Random};
 use conformance::unit::lent;
 use model::permutation::permuted;
 use std::array;
-use tigbayon::{butterfly, decode, inverse, route, Bank, Controls, End, Refusal, Run};
+use tigbayon::{butterfly, decode, gather, group, inverse, route, scatter};
+use tigbayon::{Bank, Controls, End, Gathered, Refusal, Run};
 
 type Outcome = Result<(), Refusal>;
 
@@ -134,6 +135,29 @@ fn the_static_kinds_after_a_decode_are_the_variable_ones() -> Outcome {
             assert_eq!(operate_each(&mut other, &list)?, cycles);
             assert_eq!(one.general, other.general);
             assert_eq!([one.b, one.ib], [before.b, before.ib]);
+        }
+    }
+    Ok(())
+}
+
+/// Of the count of marked bits: "Kinds 6, 7 and 10 of the register unit do not
+/// store it."
+#[test]
+fn kinds_6_7_and_10_write_the_word_alone() -> Outcome {
+    type OfMask = fn(u32, u64, u64) -> Result<Gathered, Refusal>;
+    const CALLS: [(u8, OfMask); 3] = [(6, gather), (7, scatter), (10, group)];
+    let mut random = Random::default();
+    for turn in 0..3_000 {
+        let [r1, r2, r3] = [16; 3].map(|bound| random.below(bound) as u8);
+        let mut before = random_bank(&mut random);
+        before.write(r3, [0, u64::MAX, random.word()][turn % 3])?;
+        for (kind, call) in CALLS {
+            let (mut operated, mut ran, mut expected) = (before, before, before);
+            let answer = call(64, before.read(r3)?, before.read(r2)?)?;
+            expected.write(r1, answer.word)?;
+            operated.operate(kind, r1, r2, r3)?;
+            ran.run(&[kind, r1, r2, r3], 3)?;
+            assert_eq!((operated, ran), (expected, expected));
         }
     }
     Ok(())

@@ -1,11 +1,11 @@
 //! An independent model of Tigbayon, written from the papers alone, and for
 //! prepared networks from the C header.
 //!
-//! Each definition goes bit by bit and follows the sentence of paper 01 that
-//! it quotes. Nothing here is meant to be fast, and nothing is shared with the
-//! library. The papers' "line" is a bit here, their "column" a stage, their
-//! "settings" are controls, their "order" is a permutation, their "strip" a list
-//! of words.
+//! Each definition goes bit by bit and follows the sentence that it quotes, of
+//! paper 01 where no other is named. Nothing here is meant to be fast, and
+//! nothing is shared with the library. The papers' "line" is a bit here, their
+//! "column" a stage, their "settings" are controls, their "order" is a
+//! permutation, their "strip" a list of words.
 
 pub mod bits;
 pub mod decoder;

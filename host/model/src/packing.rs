@@ -1,4 +1,4 @@
-//! Packed words ("Strips" of paper 01).
+//! Packed words ("Strips" of paper 01, request 01 of paper 02).
 
 use crate::bits::{bits_of, marked, word_of};
 use crate::refusal::{Answer, RANGE, SHORT};
@@ -9,19 +9,31 @@ const WIDTH: usize = 64;
 /// "either strip above 2,048 words"
 const LONGEST: usize = 2_048;
 
+/// Paper 02, of the count of marked lines: "Pack and unpack answer it too,
+/// beside the bits. A refused call shows 0."
+#[derive(Clone, Copy, Debug, Default, PartialEq, Eq)]
+pub struct Packed {
+    /// The count of marked bits.
+    pub count: u32,
+    /// How many bits were packed or unpacked.
+    pub bits: u64,
+}
+
 /// "It reads the words from number a up to, not including, number b. Each
 /// word's k gathered bits form a field. Field 0 begins at bit 0 of word 0 of the
 /// second strip. The next field begins at the bit after the last one, crossing
 /// into the next word where needed."
 ///
 /// ```
+/// use model::packing::{pack, Packed};
+///
 /// // Row 11 of paper 01.
 /// let mut out = [0; 2];
-/// let answer = model::packing::pack(0xFFF, &[1, 2, 3, 4, 5, 0x9A6], 0, 6, &mut out);
-/// assert_eq!(answer.result, 72);
+/// let answer = pack(0xFFF, &[1, 2, 3, 4, 5, 0x9A6], 0, 6, &mut out);
+/// assert_eq!(answer.result, Packed { count: 12, bits: 72 });
 /// assert_eq!(out, [0x6005004003002001, 0x9A]);
 /// ```
-pub fn pack(mask: u64, words: &[u64], a: usize, b: usize, out: &mut [u64]) -> Answer<u64> {
+pub fn pack(mask: u64, words: &[u64], a: usize, b: usize, out: &mut [u64]) -> Answer<Packed> {
     let marked = marked(&bits_of(WIDTH, mask));
     let conditions = conditions(marked.len(), a, b, words.len(), out.len());
     Answer::of(&conditions, || {
@@ -35,7 +47,10 @@ pub fn pack(mask: u64, words: &[u64], a: usize, b: usize, out: &mut [u64]) -> An
         for (written, bits) in out.iter_mut().zip(stream.chunks(WIDTH)) {
             *written = word_of(bits);
         }
-        stream.len() as u64
+        Packed {
+            count: marked.len() as u32,
+            bits: stream.len() as u64,
+        }
     })
 }
 
@@ -43,26 +58,29 @@ pub fn pack(mask: u64, words: &[u64], a: usize, b: usize, out: &mut [u64]) -> An
 /// into words a to b-1 of the second, and keeps its other words."
 ///
 /// ```
+/// use model::packing::{unpack, Packed};
+///
 /// let mut out = [7; 4];
-/// let answer = model::packing::unpack(0xF0, &[0x21], 1, 3, &mut out);
-/// assert_eq!(answer.result, 8);
+/// let answer = unpack(0xF0, &[0x21], 1, 3, &mut out);
+/// assert_eq!(answer.result, Packed { count: 4, bits: 8 });
 /// assert_eq!(out, [7, 0x10, 0x20, 7]);
 /// ```
-pub fn unpack(mask: u64, packed: &[u64], a: usize, b: usize, out: &mut [u64]) -> Answer<u64> {
+pub fn unpack(mask: u64, packed: &[u64], a: usize, b: usize, out: &mut [u64]) -> Answer<Packed> {
     let marked = marked(&bits_of(WIDTH, mask));
     let conditions = conditions(marked.len(), a, b, out.len(), packed.len());
     Answer::of(&conditions, || {
         let mut stream = packed.iter().flat_map(|&word| bits_of(WIDTH, word));
-        let mut count = 0;
+        let mut bits = 0;
         for written in &mut out[a..b] {
             let mut word = vec![false; WIDTH];
             for &m in &marked {
                 word[m] = stream.next().expect("the words hold the bits");
-                count += 1;
+                bits += 1;
             }
             *written = word_of(&word);
         }
-        count
+        let count = marked.len() as u32;
+        Packed { count, bits }
     })
 }
 

@@ -1,4 +1,4 @@
-//! The register unit ("The register unit" of paper 01).
+//! The register unit ("The register unit" of paper 01, request 01 of paper 02).
 
 use crate::decoder::decode;
 use crate::gather::{gather, group, scatter};
@@ -156,7 +156,8 @@ fn cycles([kind, ..]: Operation) -> u32 {
 }
 
 /// What the table says that an operation does. "Operands are read before the
-/// result is written."
+/// result is written." Paper 02, of the count of marked lines: "Kinds 6, 7 and 10
+/// of the register unit do not store it."
 fn performed(bank: &Bank, [kind, r1, r2, r3]: Operation) -> Bank {
     let read = |number: u8| bank.general[usize::from(number)];
     let through_b = |word| butterfly(WIDTH, &stages_in(bank.b), word).result;
@@ -172,11 +173,11 @@ fn performed(bank: &Bank, [kind, r1, r2, r3]: Operation) -> Bank {
         (5, 2) => after.b[2] = read(r2),
         (5, 3) => (after.ib[0], after.ib[1]) = (read(r2), read(r3)),
         (5, _) => after.ib[2] = read(r2),
-        (6, _) => write(gather(WIDTH, read(r3), read(r2)).result),
-        (7, _) => write(scatter(WIDTH, read(r3), read(r2)).result),
+        (6, _) => write(gather(WIDTH, read(r3), read(r2)).result.word),
+        (7, _) => write(scatter(WIDTH, read(r3), read(r2)).result.word),
         (8, _) => after.ib = registers_of(decode(WIDTH, read(r3)).result.inverse),
         (9, _) => after.b = registers_of(decode(WIDTH, read(r3)).result.butterfly),
-        _ => write(group(WIDTH, read(r3), read(r2)).result),
+        _ => write(group(WIDTH, read(r3), read(r2)).result.word),
     }
     after
 }

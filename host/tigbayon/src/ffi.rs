@@ -1,7 +1,7 @@
 //! The declarations of include/tigbayon.h.
 
 pub use crate::unit::Bank as TbBank;
-use crate::{Controls, Decoded, End, Refusal, Routed, Run};
+use crate::{Controls, Decoded, End, Gathered, Packed, Refusal, Routed, Run};
 
 /// The answer of gather, scatter and group.
 #[repr(C)]
@@ -9,6 +9,8 @@ use crate::{Controls, Decoded, End, Refusal, Routed, Run};
 pub struct TbGathered {
     /// The refusal's number, 0 where the call is carried out.
     pub refusal: u8,
+    /// The count of marked bits; 0 where the call is refused.
+    pub count: u32,
     /// The result; 0 where the call is refused.
     pub word: u64,
 }
@@ -63,7 +65,9 @@ pub struct TbControls2 {
 pub struct TbPacked {
     /// The refusal's number, 0 where the call is carried out.
     pub refusal: u8,
-    /// The count of bits packed or unpacked; 0 where the call is refused.
+    /// The count of marked bits; 0 where the call is refused.
+    pub count: u32,
+    /// How many bits were packed or unpacked; 0 where the call is refused.
     pub bits: u64,
 }
 
@@ -101,9 +105,12 @@ pub struct TbRegister {
     pub value: u64,
 }
 
-impl From<TbGathered> for Result<u64, Refusal> {
+impl From<TbGathered> for Result<Gathered, Refusal> {
     fn from(answer: TbGathered) -> Self {
-        Refusal::check(answer.refusal).map(|()| answer.word)
+        Refusal::check(answer.refusal).map(|()| Gathered {
+            count: answer.count,
+            word: answer.word,
+        })
     }
 }
 
@@ -143,9 +150,12 @@ impl From<TbControls2> for Result<Routed, Refusal> {
     }
 }
 
-impl From<TbPacked> for Result<u64, Refusal> {
+impl From<TbPacked> for Result<Packed, Refusal> {
     fn from(answer: TbPacked) -> Self {
-        Refusal::check(answer.refusal).map(|()| answer.bits)
+        Refusal::check(answer.refusal).map(|()| Packed {
+            count: answer.count,
+            bits: answer.bits,
+        })
     }
 }
 
@@ -263,6 +273,7 @@ pub fn tb_route_inverse(width: u32, permutation: &[u8]) -> TbControls1 {
 }
 
 /// See [`crate::pack()`].
+#[inline]
 #[allow(unsafe_code)]
 pub fn tb_pack(mask: u64, words: &[u64], a: usize, b: usize, out: &mut [u64]) -> TbPacked {
     let (length, out_length) = (words.len(), out.len());
@@ -282,6 +293,7 @@ pub fn tb_pack(mask: u64, words: &[u64], a: usize, b: usize, out: &mut [u64]) ->
 }
 
 /// See [`crate::unpack()`].
+#[inline]
 #[allow(unsafe_code)]
 pub fn tb_unpack(mask: u64, packed: &[u64], a: usize, b: usize, out: &mut [u64]) -> TbPacked {
     let (length, out_length) = (packed.len(), out.len());

@@ -1,13 +1,14 @@
 //! Safe calls over libtigbayon.a, a library proved in Rattle.
 //!
 //! A width is 8, 16, 32 or 64. A word or a mask of width w has zeros at bit w
-//! and above, bits counted from 0 at the right; the ones of a mask mark bits. A
-//! permutation of width w names each bit below w once: entry p is the bit that
-//! place p takes. A [`PreparedButterfly`] or [`PreparedInverse`] is a network
-//! prepared once for many words. Packing goes from one list of words of width 64
-//! into another, each of at most 2,048. A [`Bank`] holds the registers of a unit
-//! that performs lists of operations of width 64. Each function here is answered
-//! for every input: with its result, or with the lowest [`Refusal`] that applies.
+//! and above, bits counted from 0 at the right; the ones of a mask mark bits, and
+//! a [`Gathered`] or [`Packed`] has their count. A permutation of width w names
+//! each bit below w once: entry p is the bit that place p takes. A
+//! [`PreparedButterfly`] or [`PreparedInverse`] is a network prepared once for
+//! many words. Packing goes from one list of words of width 64 into another, each
+//! of at most 2,048. A [`Bank`] holds the registers of a unit that performs lists
+//! of operations of width 64. Each function here is answered for every input: with
+//! its result, or with the lowest [`Refusal`] that applies.
 
 mod ffi;
 mod gather;
@@ -26,9 +27,9 @@ pub use ffi::{
     TbBank, TbCarried, TbControls1, TbControls2, TbCycles, TbGathered, TbPacked, TbPrepared,
     TbRegister, TbRun,
 };
-pub use gather::{gather, group, scatter};
+pub use gather::{gather, group, scatter, Gathered};
 pub use network::{butterfly, decode, inverse, Controls, Decoded};
-pub use packing::{pack, unpack};
+pub use packing::{pack, unpack, Packed};
 pub use prepared::{PreparedButterfly, PreparedInverse};
 pub use refusal::Refusal;
 pub use routing::{route, route_butterfly, route_inverse, Routed};

@@ -89,8 +89,9 @@ pub fn inverse(width: u32, controls: &Controls, word: u64) -> Result<u64, Refusa
 /// assert_eq!(decode(8, 0), Ok(Decoded::default()));
 ///
 /// let carried = butterfly(8, &decoded.butterfly, 0x1A)?;
-/// assert_eq!(carried & mask, scatter(8, mask, 0x1A)?);
-/// assert_eq!(inverse(8, &decoded.inverse, 0xB6 & mask), gather(8, mask, 0xB6));
+/// assert_eq!(carried & mask, scatter(8, mask, 0x1A)?.word);
+/// let carried = inverse(8, &decoded.inverse, 0xB6 & mask)?;
+/// assert_eq!(carried, gather(8, mask, 0xB6)?.word);
 /// # Ok::<(), tigbayon::Refusal>(())
 /// ```
 pub fn decode(width: u32, mask: u64) -> Result<Decoded, Refusal> {

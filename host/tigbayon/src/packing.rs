@@ -3,8 +3,16 @@
 use crate::{ffi, Refusal};
 use std::ops::Range;
 
+/// What pack and unpack answer.
+#[derive(Clone, Copy, Debug, PartialEq, Eq, Hash)]
+pub struct Packed {
+    /// k, the count of marked bits, from 0 to 64.
+    pub count: u32,
+    /// How many bits were packed or unpacked: k for each word of the range.
+    pub bits: u64,
+}
+
 /// Gathers the words of `range` by `mask` and packs their fields into `out`.
-/// Answers the count of bits, k for each word if k bits are marked.
 ///
 /// The first field begins at bit 0 of the first word, each next one at the bit
 /// after the last. Spare bits of the last word written become zero; words after
@@ -16,12 +24,15 @@ use std::ops::Range;
 /// above 2,048 words, and [`Refusal::Short`], if `out` cannot hold the bits.
 ///
 /// ```
-/// use tigbayon::{pack, Refusal};
+/// use tigbayon::{pack, Packed, Refusal};
 ///
 /// let words = [1, 2, 3, 4, 5, 0x9A6];
 /// let mut out = [7; 3];
-/// assert_eq!(pack(0xFFF, &words, 0..6, &mut out), Ok(72));
+/// assert_eq!(pack(0xFFF, &words, 0..6, &mut out), Ok(Packed { count: 12, bits: 72 }));
 /// assert_eq!(out, [0x6005_0040_0300_2001, 0x9A, 7]);
+///
+/// assert_eq!(pack(0, &words, 0..6, &mut out), Ok(Packed { count: 0, bits: 0 }));
+/// assert_eq!(pack(u64::MAX, &words, 3..3, &mut out), Ok(Packed { count: 64, bits: 0 }));
 ///
 /// assert_eq!(pack(0xFFF, &words, 3..2, &mut out), Err(Refusal::Range));
 /// assert_eq!(pack(0xFFF, &words, 0..7, &mut out), Err(Refusal::Range));
@@ -32,12 +43,12 @@ pub fn pack(
     words: &[u64],
     range: Range<usize>,
     out: &mut [u64],
-) -> Result<u64, Refusal> {
+) -> Result<Packed, Refusal> {
     ffi::tb_pack(mask, words, range.start, range.end, out).into()
 }
 
 /// Reads fields so packed and writes each, scattered by `mask`, into the words
-/// of `range` of `out`. Answers the count of bits, as [`pack`] does.
+/// of `range` of `out`. Answers as [`pack`] does.
 ///
 /// Spare bits of the last word read are not looked at. The other words of `out`
 /// stay as they were. If the call is refused, every word does.
@@ -49,11 +60,11 @@ pub fn pack(
 /// bits.
 ///
 /// ```
-/// use tigbayon::{unpack, Refusal};
+/// use tigbayon::{unpack, Packed, Refusal};
 ///
 /// let packed = [0x6005_0040_0300_2001, 0x9A];
 /// let mut out = [7; 8];
-/// assert_eq!(unpack(0xFFF, &packed, 1..7, &mut out), Ok(72));
+/// assert_eq!(unpack(0xFFF, &packed, 1..7, &mut out), Ok(Packed { count: 12, bits: 72 }));
 /// assert_eq!(out, [7, 1, 2, 3, 4, 5, 0x9A6, 7]);
 ///
 /// assert_eq!(unpack(0xFFF, &packed, 1..9, &mut out), Err(Refusal::Range));
@@ -64,6 +75,6 @@ pub fn unpack(
     packed: &[u64],
     range: Range<usize>,
     out: &mut [u64],
-) -> Result<u64, Refusal> {
+) -> Result<Packed, Refusal> {
     ffi::tb_unpack(mask, packed, range.start, range.end, out).into()
 }

@@ -120,7 +120,7 @@ impl PreparedInverse {
     /// let mask = 0xAD;
     /// let gathering = PreparedInverse::new(8, &decode(8, mask)?.inverse)?;
     /// for word in 0..=0xFF {
-    ///     assert_eq!(gather(8, mask, word), Ok(gathering.carry(word & mask)));
+    ///     assert_eq!(gather(8, mask, word)?.word, gathering.carry(word & mask));
     /// }
     /// # Ok::<(), tigbayon::Refusal>(())
     /// ```

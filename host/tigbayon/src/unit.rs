@@ -19,7 +19,8 @@ use crate::{ffi, Refusal};
 /// | 8, 9 | ib, b = the controls decoded from r3 | 2 |
 /// | 10 | r1 = r2 grouped by r3 | 3 |
 ///
-/// A byte that has no meaning there is not looked at.
+/// A byte that has no meaning there is not looked at. Kinds 6, 7 and 10 write the
+/// word alone, no count.
 #[repr(C)]
 #[derive(Clone, Copy, Debug, Default, PartialEq, Eq, Hash)]
 pub struct Bank {

@@ -37,8 +37,9 @@ part-write-fields-end c = allowed c .end
 
 write-fields-requires : tie.Need-write-fields-requires
 write-fields-requires c κs =
-    let w = allowed (c .before .before) in
-    cut-room _ _ _ (w .start) (w .end) _ (w .room)
+    let e = c .before .before in
+    let w = allowed e in
+    (e .before .before .before .count .ensures, cut-room _ _ _ (w .start) (w .end) _ (w .room))
 
 same-length : tie.Need-same-length
 same-length c = search needs

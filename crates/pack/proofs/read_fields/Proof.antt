@@ -13,15 +13,12 @@ use Rattle.pack.proofs.WholeWords.{copied-unpacked}
 use Rattle.pack.proofs.read_fields.Statement.{statement}
 use Rattle.pack.proofs.read_fields.Tie as tie
 
-count-requires : tie.Need-count-requires
-count-requires c κs = search needs
-
 -- all 64 places are marked
-whole : (t : tie.Then1) → sizeOf (t .before .before .before .before .args .mask) ≡ 64
-whole t = omega (arith, t .before .count .ensures, t .if1 .taken)
+whole : (t : tie.Then1) → sizeOf (t .before .before .before .args .mask) ≡ 64
+whole t = omega (arith, t .before .before .before .pre .0, t .if1 .taken)
 
 copy-words-requires : tie.Need-copy-words-requires
-copy-words-requires c κs = let r = rw (whole (c .before)) at (c .before .before .before .before .before .pre) in (omega arith, search needs)
+copy-words-requires c κs = let r = rw (whole (c .before)) at (c .before .before .before .before .pre .1) in (omega arith, search needs)
 
 same-length : tie.Need-same-length
 same-length c = search needs
@@ -29,12 +26,12 @@ same-length c = search needs
 returns : tie.Need-returns
 returns c =
     let t = c .before .before .before .before in
-    let a = t .before .before .before .before .args in
+    let a = t .before .before .before .args in
     copied-unpacked (a .mask) (whole t) (a .packed .now) (a .out .now) (c .before .before .copy-words .ensures)
 
 returns-2 : tie.Need-returns-2
 returns-2 c =
-    let a = c .before .before .before .before .before .args in
+    let a = c .before .before .before .before .args in
     let f = scatteredAt (a .mask) (a .packed .now) in
     let e : 0 ≡ length (a .out .now) = omega (arith, c .if2 .taken) in
     fill-none f (a .out .now) ∙ fill-all f 0 (a .out .now) (omega arith) ∙ ap (λ (n : ℕ). upTo n f) e
@@ -46,17 +43,16 @@ start-requires : tie.Need-start-requires
 start-requires c κs = search needs
 
 started : (c : tie.After-start)
-    → let a = c .before .before .before .before .before .before .before .before .args in
+    → let a = c .before .before .before .before .before .before .before .args in
     Awaits (a .packed .now) (sizeOf (a .mask) * 0) (c .start .result)
 started c = unpack-starts _ _ (c .start .ensures)
 
 take-requires : tie.Need-take-requires
 take-requires c κs =
-    let k = c .before .before .before .before .before in
-    let b = k .before .before .before in (
+    let b = c .before .before .before .before .before .before .before in (
       started c .within,
-      omega (arith, rank-le (b .args .mask) 64, k .count .ensures),
-      unpack-room (b .args .mask) (b .args .packed .now) (b .pre) (search needs) (started c) (k .count .ensures),
+      omega (arith, rank-le (b .args .mask) 64, b .pre .0),
+      unpack-room (b .args .mask) (b .args .packed .now) (b .pre .1) (search needs) (started c) (b .pre .0),
     )
 
 scattered-requires : tie.Need-scattered-requires
@@ -71,12 +67,12 @@ same-length-2 c = search needs
 returns-3 : tie.Need-returns-3
 returns-3 c =
     let s = c .before .before in
-    let k = s .before .before .before .before .before in
-    let a = k .before .before .before .args in
+    let b = s .before .before .before .before .before .before .before in
+    let a = b .args in
     let f = scatteredAt (a .mask) (a .packed .now) in
     let e : 0 + 1 ≡ length (a .out .now) = search needs in
     fill-next f 0 (a .out .now) (search needs) (fill-none f (a .out .now))
-    (c .scattered .ensures ∙ unpack-field _ _ 0 (started s) (k .count .ensures) (c .before .take .ensures))
+    (c .scattered .ensures ∙ unpack-field _ _ 0 (started s) (b .pre .0) (c .before .take .ensures))
     ∙ fill-all f (0 + 1) (a .out .now) (omega (arith, e))
     ∙ ap (λ (n : ℕ). upTo n f) e
 
@@ -93,7 +89,6 @@ pub read-fields-spec : {M : Type 1} → statement M
 read-fields-spec =
     tie.close
     (tie.spec
-    count-requires
     copy-words-requires
     same-length
     returns

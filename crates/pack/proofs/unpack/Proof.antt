@@ -37,8 +37,9 @@ part-read-fields-end c = allowed c .end
 
 read-fields-requires : tie.Need-read-fields-requires
 read-fields-requires c κs =
-    let w = allowed (c .before) in
-    cut-room _ _ _ (w .start) (w .end) _ (w .room)
+    let e = c .before in
+    let w = allowed e in
+    (e .before .before .before .count .ensures, cut-room _ _ _ (w .start) (w .end) _ (w .room))
 
 same-length : tie.Need-same-length
 same-length c = search needs

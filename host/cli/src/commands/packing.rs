@@ -6,7 +6,7 @@ use crate::command::{Argument, Choice, Command, Example, MASK};
 use crate::failure::Failure;
 use crate::number::{hex_list, Base};
 use std::ops::Range;
-use tigbayon::Refusal;
+use tigbayon::{Packed, Refusal};
 
 /// The options that lend the words to write into.
 const OUT: [&str; 2] = ["--out", "--length"];
@@ -24,7 +24,8 @@ const CHOICES: [Choice; 2] = [
 ];
 
 const NOTES: &str = "\
-Prints the count of bits, then all words of the list that is written into.
+Prints how many bits are packed or unpacked and the count of marked bits, in decimal,
+then all words of the list that is written into.
 ";
 
 const REFUSALS: &[Refusal] = &[Refusal::Range, Refusal::Short];
@@ -58,11 +59,11 @@ pub const PACK: Command = Command {
     examples: &[
         Example {
             call: "pack 0xFFF 1,2,3,4,5,0x9A6 0 6",
-            prints: "72 bits\n0x6005004003002001,0x9A",
+            prints: "72 bits, count 12\n0x6005004003002001,0x9A",
         },
         Example {
             call: "pack 0xFFF 1,2,3,4,5,0x9A6 0 2 --out 7,7",
-            prints: "24 bits\n0x2001,0x7",
+            prints: "24 bits, count 12\n0x2001,0x7",
         },
         Example {
             call: "pack 0xFFF 1,2,3,4,5,0x9A6 0 6 --length 1",
@@ -98,11 +99,11 @@ pub const UNPACK: Command = Command {
     examples: &[
         Example {
             call: "unpack 0xFFF 0x6005004003002001,0x9A 0 6",
-            prints: "72 bits\n0x1,0x2,0x3,0x4,0x5,0x9A6",
+            prints: "72 bits, count 12\n0x1,0x2,0x3,0x4,0x5,0x9A6",
         },
         Example {
             call: "unpack 0xFFF 0x6005004003002001,0x9A 1 3 --out 7,7,7,7",
-            prints: "24 bits\n0x7,0x1,0x2,0x7",
+            prints: "24 bits, count 12\n0x7,0x1,0x2,0x7",
         },
     ],
     perform: |given| {
@@ -112,7 +113,7 @@ pub const UNPACK: Command = Command {
 };
 
 /// A call that reads one list of words and writes into another.
-type Call = fn(u64, &[u64], Range<usize>, &mut [u64]) -> Result<u64, Refusal>;
+type Call = fn(u64, &[u64], Range<usize>, &mut [u64]) -> Result<Packed, Refusal>;
 
 /// Makes the call on the words of this name and those that are lent.
 fn between_lists(
@@ -126,12 +127,12 @@ fn between_lists(
     let a = given.argument("A").number(Base::Decimal)?;
     let b = given.argument("B").number(Base::Decimal)?;
     let mut out = out(given, || enough(mask, &words, a..b))?;
-    let bits = call(mask, &words, a..b, &mut out)?;
+    let Packed { count, bits } = call(mask, &words, a..b, &mut out)?;
     let written = match out.as_slice() {
         [] => String::new(),
         words => hex_list(words) + "\n",
     };
-    Ok(Answer::of(format!("{bits} bits\n{written}")))
+    Ok(Answer::of(format!("{bits} bits, count {count}\n{written}")))
 }
 
 /// The words to write into.

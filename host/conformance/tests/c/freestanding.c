@@ -29,7 +29,7 @@ __attribute__((force_align_arg_pointer)) void _start(void)
 {
     TbGathered colour = tb_gather(64, 0x0FFF0FFF0FFF0FFF, 0x0123045607890ABC);
 
-    end(colour.refusal != TB_CARRIED_OUT || colour.word != 0x123456789ABC);
+    end(colour.refusal != TB_CARRIED_OUT || colour.count != 48 || colour.word != 0x123456789ABC);
     for (;;) {
     }
 }

@@ -10,8 +10,8 @@
 
 static void print_layouts(void)
 {
-    printf("TbGathered %u: %u %u\n", SIZE(TbGathered), AT(TbGathered, refusal),
-           AT(TbGathered, word));
+    printf("TbGathered %u: %u %u %u\n", SIZE(TbGathered), AT(TbGathered, refusal),
+           AT(TbGathered, count), AT(TbGathered, word));
     printf("TbCarried %u: %u %u\n", SIZE(TbCarried), AT(TbCarried, refusal),
            AT(TbCarried, word));
     printf("TbPrepared %u: %u %u\n", SIZE(TbPrepared), AT(TbPrepared, refusal),
@@ -20,7 +20,8 @@ static void print_layouts(void)
            AT(TbControls1, stages));
     printf("TbControls2 %u: %u %u %u\n", SIZE(TbControls2), AT(TbControls2, refusal),
            AT(TbControls2, butterfly), AT(TbControls2, inverse));
-    printf("TbPacked %u: %u %u\n", SIZE(TbPacked), AT(TbPacked, refusal), AT(TbPacked, bits));
+    printf("TbPacked %u: %u %u %u\n", SIZE(TbPacked), AT(TbPacked, refusal),
+           AT(TbPacked, count), AT(TbPacked, bits));
     printf("TbBank %u: %u %u %u\n", SIZE(TbBank), AT(TbBank, general), AT(TbBank, b),
            AT(TbBank, ib));
     printf("TbCycles %u: %u %u\n", SIZE(TbCycles), AT(TbCycles, refusal), AT(TbCycles, cycles));
@@ -32,7 +33,8 @@ static void print_layouts(void)
 
 static void print_gathered(const char *call, TbGathered answer)
 {
-    printf("%s %u %" PRIx64 "\n", call, (unsigned)answer.refusal, answer.word);
+    printf("%s %u %" PRIu32 " %" PRIx64 "\n", call, (unsigned)answer.refusal, answer.count,
+           answer.word);
 }
 
 static void print_carried(const char *call, TbCarried answer)
@@ -125,7 +127,8 @@ static void print_prepared(TbControls2 decoded)
 
 static void print_packed(const char *call, TbPacked answer, const uint64_t *out, int count)
 {
-    printf("%s %u %" PRIu64 ":", call, (unsigned)answer.refusal, answer.bits);
+    printf("%s %u %" PRIu32 " %" PRIu64 ":", call, (unsigned)answer.refusal, answer.count,
+           answer.bits);
     print_words(out, count);
 }
 
@@ -223,6 +226,8 @@ int main(void)
     print_gathered("gather", tb_gather(12, 0xAD, 0xB6));
     print_gathered("scatter", tb_scatter(8, 0xAD, 0x100));
     print_gathered("group", tb_group(64, UINT64_MAX, 5));
+    print_gathered("gather", tb_gather(8, 0, 0xB6));
+    print_gathered("group", tb_group(8, 0x1FF, 0xB6));
     print_controls2("decode", decoded);
     print_controls2("decode", tb_decode(8, 0));
     print_controls2("decode", tb_decode(8, 0x100));
