@@ -18,10 +18,11 @@
  * each call ends. No function keeps state or allocates. None touches any memory
  * but what its arguments point to, and where that is const it is only read.
  *
- * A later version may add fields to a struct or arguments to a call. With that
- * TB_VERSION_MINOR rises while TB_VERSION_MAJOR is 0, and CHANGELOG.md says what
- * to change. A refusal number, once given, keeps its meaning, and no name is
- * used again for another meaning. Header and archive must be of one version.
+ * A later version may add fields to a struct, arguments to a call, or a refusal.
+ * With that TB_VERSION_MINOR rises while TB_VERSION_MAJOR is 0, and CHANGELOG.md
+ * says what to change. A refusal number, once given, keeps its meaning, and no
+ * name is used again for another meaning. Header and archive must be of one
+ * version.
  */
 #ifndef TIGBAYON_H
 #define TIGBAYON_H
@@ -31,7 +32,7 @@
 
 /* The version of this header, and of the archive that it belongs to. */
 #define TB_VERSION_MAJOR 0
-#define TB_VERSION_MINOR 3
+#define TB_VERSION_MINOR 4
 #define TB_VERSION_PATCH 0
 
 #ifdef __cplusplus
@@ -55,7 +56,8 @@ enum TbRefusal {
     TB_REFUSAL_REGISTER = 8,     /* a register number in use above 15 */
     TB_REFUSAL_RANGE = 9,        /* a above b, b above the length of the words that a and b
                                     cut, or either list above 2,048 words */
-    TB_REFUSAL_SHORT = 10        /* the other list of words shorter than its bits need */
+    TB_REFUSAL_SHORT = 10,       /* the other list of words shorter than its bits need */
+    TB_REFUSAL_SPARE = 11        /* a spare bit of the last packed word read is one */
 };
 
 /* The answer of tb_gather, tb_scatter and tb_group. */
@@ -255,10 +257,12 @@ TbPacked tb_pack(uint64_t mask, const uint64_t *words, size_t length, size_t a, 
 
 /*
  * Unpack: the fields of `packed`, each scattered by the mask, written into
- * words a to b-1 of `out`; its other words stay as they were. Spare bits are
- * not looked at. With k = 0 words a to b-1 become zero.
- * Refusals: TB_REFUSAL_RANGE (a and b cut `out`), TB_REFUSAL_SHORT (of
- * `packed`).
+ * words a to b-1 of `out`; its other words stay as they were. Spare bits must be
+ * zero; with k*(b - a) a multiple of 64 there are none. Words after the last one
+ * read are not looked at. So tb_pack of `out`, by the same mask, a and b, gives
+ * the words read. With k = 0 words a to b-1 become zero.
+ * Refusals: TB_REFUSAL_RANGE (a and b cut `out`), TB_REFUSAL_SHORT and
+ * TB_REFUSAL_SPARE (of `packed`).
  */
 TbPacked tb_unpack(uint64_t mask, const uint64_t *packed, size_t length, size_t a, size_t b,
                    uint64_t *out, size_t out_length);

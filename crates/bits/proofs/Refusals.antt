@@ -2,10 +2,10 @@
 use mathlib.Core.Path.{_≡_, refl, sym, _∙_, ap, subst}
 use mathlib.Core.Logic.{_⊎_, inl, inr}
 use mathlib.Core.Bool.{Bool, true, false, cond, not, _&&_, _||_, true≢false}
-use mathlib.Core.List.{List, [], _∷_}
+use mathlib.Core.List.{List, [], _∷_, _++_}
 use Prim.Native.Nat.{ℕ, _/_, _^_, _<_, _≤_}
 use native.Mathlib.Omega.{arith}
-use native.Mathlib.Decide.{decLt}
+use native.Mathlib.Decide.{decLt, ℕ-discrete}
 use native.Mathlib.Nat.{div-eq-of-lt, div-lt-iff-lt-mul}
 use lib.Dec.{eqb, ltb}
 use lib.Pow.{pow-pos, pow-mono}
@@ -53,6 +53,25 @@ answers-lowest cs r number refused done d e = by-test (eqb (lowest cs) 0) (eqb-t
         record { least = subst (IsLowest cs) (f refl ∙ sym d) (lowest-law cs r); zeros = λ z. absurd (z d) }
     by-test false f =
         record { least = subst (IsLowest cs) (sym (e (lowest cs))) (lowest-law cs r); zeros = λ z. ap refused (sym (e (lowest cs))) }
+
+-- conditions after others count only if none of those holds
+pub lowest-more : (b : ℕ) (cs ds : List (ℕ × Bool)) → Rising b cs → lowest (cs ++ ds) ≡ cond (eqb (lowest cs) 0) (lowest ds) (lowest cs)
+lowest-more b [] ds r = refl
+lowest-more b (c ∷ cs) ds r = by (c .1) (lowest-more (c .0) cs ds (r .1))
+  where
+    by : (t : Bool) → lowest (cs ++ ds) ≡ cond (eqb (lowest cs) 0) (lowest ds) (lowest cs)
+        → cond t (c .0) (lowest (cs ++ ds)) ≡ cond (eqb (cond t (c .0) (lowest cs)) 0) (lowest ds) (cond t (c .0) (lowest cs))
+    by true e = let n : c .0 ≡ 0 → ⊥ = λ z. omega (arith, r .0) in rw (ne-eqb (c .0) 0 n)
+    by false e = e
+
+-- what holds of zeros beside a refusal and of what is carried out holds of every answer
+pub every-answer : {A : Type 0} (P : A → Type 0) (n : ℕ) (refused : ℕ → A) (done : A) → ((n ≡ 0 → ⊥) → P (refused n)) → (n ≡ 0 → P done)
+    → P (cond (eqb n 0) done (refused n))
+every-answer P n refused done zeros carried = by (ℕ-discrete n 0)
+  where
+    by : Dec (n ≡ 0) → P (cond (eqb n 0) done (refused n))
+    by (yes z) = rw (eq-eqb n 0 z) (carried z)
+    by (no z) = rw (ne-eqb n 0 z) (zeros z)
 
 -- of a call that is carried out no condition holds
 abbrev pub NoneApplies : List (ℕ × Bool) → Type 0

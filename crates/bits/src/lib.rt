@@ -27,6 +27,8 @@ pub const RANGE: u8 = 9; // a is above b, b is above the length of the words tha
 
 pub const SHORT: u8 = 10; // the other list of words is shorter than its bits need
 
+pub const SPARE: u8 = 11; // a spare bit of the last packed word read is one (paper 02, Req 02)
+
 // The base-two logarithm of an accepted width, 0 for any other number.
 pub fn log_of(width: u32) -> u32
     ensures { λ r. ⌜ r ≡ logOf width ⌝ }

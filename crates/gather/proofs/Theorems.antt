@@ -1,5 +1,5 @@
 -- Demand 2's theorems on gather, scatter and group, over every width, the definitions by rank, and Req 01's theorems on the count. Assumes nothing.
-use mathlib.Core.Path.{_≡_, refl, sym, _∙_, ap, subst}
+use mathlib.Core.Path.{_≡_, refl, sym, _∙_, ap}
 use mathlib.Core.Logic.{_⊎_, inl, inr}
 use mathlib.Core.List.{_++_}
 use Prim.Native.Nat.{ℕ, _+_, _-_, _%_, _^_, _<_, _≤_, min}
@@ -12,13 +12,14 @@ use lib.Seq.{getD-append-add}
 use lib.Pow.{pow-mono, pow-pos}
 use Rattle.bits.specs.Bit.{bit, rank, marked, unmarked}
 use Rattle.bits.proofs.Word.{bit-lt, bit-cases, bit-and, bit-mod, bit-mod-above, bit-not, ext}
+use Rattle.bits.proofs.Refusals.{every-answer}
 use Rattle.bits.proofs.Rank.{rank-le, rank-lt, rank-between, rank-not, select}
 use Rattle.bits.proofs.Places.{bit-pick, bit-pick-above, pick-lt, unmarked-not, length-marked, marked-at, bit-put-marked}
 use borrow.Author.Tests.{lt-ltb}
 use Rattle.gather.specs.declared.Gathered.{Gathered}
 use Rattle.gather.specs.Gather.{gatherOf, scatterOf, groupOf, refusalOf, answerOf}
 use Rattle.gather.proofs.AnyWidth.{gather-count, gather-lt, scatter-lt}
-use Rattle.gather.proofs.MaskAnswers.{answer-refused, carried-out, within, refusal-by}
+use Rattle.gather.proofs.MaskAnswers.{carried-out, within, refusal-by}
 
 module _ (w m x : ℕ) where
   -- Gather by rank: a marked bit comes to the place that counts the marked bits below it
@@ -144,26 +145,20 @@ module _ (w m x : ℕ) (h : refusalOf w m x ≡ 0) where
 
 -- Req 01: the count of an answer.
 module _ (w m x : ℕ) where
-  -- what holds of zeros beside a refusal and of what is carried out holds of every answer
-  every-answer : (f : ℕ → ℕ → ℕ → ℕ) (P : Gathered → Type 0) → ((n : ℕ) → (n ≡ 0 → ⊥) → P (record { refusal = n; count = 0; word = 0 }))
+  of-answer : (f : ℕ → ℕ → ℕ → ℕ) (P : Gathered → Type 0) → ((n : ℕ) → (n ≡ 0 → ⊥) → P (record { refusal = n; count = 0; word = 0 }))
       → P (record { refusal = 0; count = rank m w; word = f w m x }) → P (answerOf f w m x)
-  every-answer f P zeros done = by (decLt 0 (refusalOf w m x))
-    where
-      by : Dec (0 < refusalOf w m x) → P (answerOf f w m x)
-      by (yes h) =
-          let z : refusalOf w m x ≡ 0 → ⊥ = λ q. omega arith in
-          subst P (answer-refused w m x f refl z) (zeros (refusalOf w m x) z)
-      by (no h) = subst P (carried-out w m x f refl (omega arith) refl) done
+  unfolding answerOf
+  of-answer f P zeros done = every-answer P (refusalOf w m x) (λ n. record { refusal = n; count = 0; word = 0 }) _ (zeros (refusalOf w m x)) (λ z. done)
 
   module _ (f : ℕ → ℕ → ℕ → ℕ) where
     -- "how many lines a mask opens": the length of the list m0, m1, ..
     pub calls-count : answerOf f w m x .refusal ≡ 0 → answerOf f w m x .count ≡ length (marked m w)
     calls-count =
-        every-answer f (λ (a : Gathered). a .refusal ≡ 0 → a .count ≡ length (marked m w)) (λ n z q. absurd (z q)) (λ q. sym (length-marked m w))
+        of-answer f (λ (a : Gathered). a .refusal ≡ 0 → a .count ≡ length (marked m w)) (λ n z q. absurd (z q)) (λ q. sym (length-marked m w))
 
     -- "0 to w"
     pub calls-count-le : answerOf f w m x .count ≤ w
-    calls-count-le = every-answer f (λ (a : Gathered). a .count ≤ w) (λ n z. omega arith) (rank-le m w)
+    calls-count-le = of-answer f (λ (a : Gathered). a .count ≤ w) (λ n z. omega arith) (rank-le m w)
 
   pub calls-gather-count : answerOf gatherOf w m x .word < 2 ^ answerOf gatherOf w m x .count
-  calls-gather-count = every-answer gatherOf (λ (a : Gathered). a .word < 2 ^ a .count) (λ n z. omega arith) (gather-count m x w)
+  calls-gather-count = of-answer gatherOf (λ (a : Gathered). a .word < 2 ^ a .count) (λ n z. omega arith) (gather-count m x w)

@@ -1,20 +1,19 @@
 -- What the calls' answers come to, by the tests that the code makes. Assumes nothing.
-use mathlib.Core.Path.{_≡_, refl, sym, _∙_, ap, subst}
-use mathlib.Core.Bool.{Bool, true, false, cond}
-use mathlib.Core.List.{List, _++_}
-use Prim.Native.Nat.{ℕ, zero, suc, _-_, _*_, _<_, _≤_}
+use mathlib.Core.Path.{_≡_, refl, sym, _∙_, ap, ap₂, subst}
+use mathlib.Core.Bool.{Bool, true, false, not, cond, _||_}
+use mathlib.Core.List.{List, [], _∷_, _++_}
+use Prim.Native.Nat.{ℕ, _-_, _*_, _≤_}
 use native.Mathlib.Omega.{arith}
-use native.Mathlib.Decide.{decLt}
 use native.Mathlib.Nat.{mul-le-mul-right, zero-mul}
-use lib.Dec.{eqb}
+use lib.Dec.{eqb, ltb}
 use lib.ListN.{length, take, drop, length-take, length-drop}
 use borrow.Rule.Slice.PartMut.{post-is}
-use borrow.Author.Tests.{eq-eqb, ne-eqb, ltb-false, le-ltb}
-use Rattle.bits.specs.Refusal.{lowest, AnswersLowest}
-use Rattle.bits.proofs.Refusals.{answers-lowest, none-applies, neither}
+use borrow.Author.Tests.{eq-eqb, ne-eqb, eqb-true, ltb-false, le-ltb, not-false}
+use Rattle.bits.specs.Refusal.{lowest, Rising, AnswersLowest}
+use Rattle.bits.proofs.Refusals.{answers-lowest, every-answer, lowest-more, none-applies, neither}
 use Rattle.pack.specs.declared.Packed.{Packed}
-use Rattle.pack.specs.Fields.{upTo, needed, cut, scatteredAt, unpackInto}
-use Rattle.pack.specs.Calls.{fieldsConditions, fieldsRefusal, fieldsAnswer, leftOf}
+use Rattle.pack.specs.Fields.{upTo, needed, cut, spareBits, scatteredAt, unpackInto}
+use Rattle.pack.specs.Calls.{fieldsConditions, fieldsRefusal, unpackConditions, unpackRefusal, fieldsAnswer, leftOf}
 
 -- the number of bits fits
 pub bits-le : {k d : ℕ} → k ≤ 64 → d ≤ 2048 → k * d ≤ 131072
@@ -28,16 +27,11 @@ pub record InLimits (k a b own other : ℕ) : Type 0 where
   pub other-limit : other ≤ 2048
   pub room : needed (k * (b - a)) ≤ other
 
-cond-pair : {A B : Type 0} (t : Bool) (x y : A) (u v : B) → cond {A = A × B} t (x, u) (y, v) ≡ (cond t x y, cond t u v)
-cond-pair true x y u v = refl
-cond-pair false x y u v = refl
-
 module _ (k a b own other : ℕ) where
-  pub within : fieldsRefusal k a b own other ≡ 0 → InLimits k a b own other
-  unfolding fieldsRefusal
-  within e =
-      let n = none-applies (fieldsConditions k a b own other) (omega arith) e in
-      let o = neither _ _ (n .0) in
+  -- from the conditions of 9 and 10
+  limits-hold : (ltb b a || (ltb own b || (ltb 2048 own || ltb 2048 other))) ≡ false → ltb other (needed (k * (b - a))) ≡ false → InLimits k a b own other
+  limits-hold range short =
+      let o = neither _ _ range in
       let p = neither _ _ (o .1) in
       let q = neither _ _ (p .1) in
       record {
@@ -45,8 +39,14 @@ module _ (k a b own other : ℕ) where
         end = ltb-false own b (p .0);
         own-limit = ltb-false 2048 own (q .0);
         other-limit = ltb-false 2048 other (q .1);
-        room = ltb-false other (needed (k * (b - a))) (n .1 .0);
+        room = ltb-false other (needed (k * (b - a))) short;
       }
+
+  pub within : fieldsRefusal k a b own other ≡ 0 → InLimits k a b own other
+  unfolding fieldsRefusal
+  within e =
+      let n = none-applies (fieldsConditions k a b own other) (omega arith) e in
+      limits-hold (n .0) (n .1 .0)
 
   pub by-none : InLimits k a b own other → 0 ≡ fieldsRefusal k a b own other
   unfolding fieldsRefusal
@@ -59,86 +59,102 @@ module _ (k a b own other : ℕ) where
         le-ltb other (needed (k * (b - a))) (w .room),
       )
 
-  -- demand 1, of the answer and of the words lent
-  pub fields-lowest : (done out : List ℕ)
-      → AnswersLowest {A = Packed × List ℕ} (fieldsConditions k a b own other) (λ r. r .0 .refusal) (λ n. (record { refusal = n; count = 0; bits = 0 }, out))
-      (fieldsAnswer k a b own other, leftOf k a b own other done out)
-  unfolding fieldsAnswer leftOf fieldsRefusal
-  fields-lowest done out =
-      let cs = fieldsConditions k a b own other in
-      let none : ℕ → Packed × List ℕ = λ n. (record { refusal = n; count = 0; bits = 0 }, out) in
-      subst (AnswersLowest cs (λ r. r .0 .refusal) none) (cond-pair (eqb (lowest cs) 0) _ _ done out)
-      (answers-lowest cs (omega arith) (λ r. r .0 .refusal) none (record { refusal = 0; count = k; bits = k * (b - a) }, done) refl (λ n. refl))
+  -- the refusal for fields of as many bits as the code counted
+  pub fields-number : {size number : ℕ} → size ≡ k → number ≡ fieldsRefusal size a b own other → number ≡ fieldsRefusal k a b own other
+  fields-number s e = e ∙ ap (λ (j : ℕ). fieldsRefusal j a b own other) s
 
-  -- the answer's first number is the refusal
-  pub answer-refusal : fieldsAnswer k a b own other .refusal ≡ fieldsRefusal k a b own other
+  -- what the code asks of a and b, and that the number of bits fits
+
+  pub both-within : InLimits k a b own other → (a ≤ b) × (b ≤ 2048)
+  both-within w = (w .start, omega (arith, w .end, w .own-limit))
+
+  pub bits-fit : InLimits k a b own other → k ≤ 64 → k * (b - a) ≤ 131072
+  bits-fit w h = bits-le h (omega (arith, both-within w))
+
+-- unpack: 9 and 10 first, then 11
+
+module _ (k a b own : ℕ) (ps : List ℕ) where
+  pub unpack-within : unpackRefusal k a b own ps ≡ 0 → InLimits k a b own (length ps) × (spareBits (k * (b - a)) ps ≡ 0)
+  unfolding unpackRefusal
+  unpack-within e =
+      let n = none-applies (unpackConditions k a b own ps) (omega arith) e in
+      (limits-hold k a b own (length ps) (n .0) (n .1 .0), eqb-true (spareBits (k * (b - a)) ps) 0 (not-false _ (n .1 .1 .0)))
+
+  pub unpack-number : {size number : ℕ} → size ≡ k → number ≡ unpackRefusal size a b own ps → number ≡ unpackRefusal k a b own ps
+  unpack-number s e = e ∙ ap (λ (j : ℕ). unpackRefusal j a b own ps) s
+
+  -- from the outcomes of the code's two tests
+  pub unpack-refusal-by : {n : ℕ} {t : Bool} → n ≡ fieldsRefusal k a b own (length ps) → t ≡ not (eqb (spareBits (k * (b - a)) ps) 0)
+      → cond (eqb n 0) (cond t 11 0) n ≡ unpackRefusal k a b own ps
+  unfolding unpackRefusal fieldsRefusal
+  unpack-refusal-by {n} {t} e f =
+      (λ i. cond (eqb (e i) 0) (cond (f i) 11 0) (e i))
+      ∙ sym (lowest-more 0 (fieldsConditions k a b own (length ps)) ((11, not (eqb (spareBits (k * (b - a)) ps) 0)) ∷ []) (omega arith))
+
+  pub by-none-spare : InLimits k a b own (length ps) → spareBits (k * (b - a)) ps ≡ 0 → 0 ≡ unpackRefusal k a b own ps
+  by-none-spare w z = unpack-refusal-by (by-none k a b own (length ps) w) (sym (ap not (eq-eqb (spareBits (k * (b - a)) ps) 0 z)))
+
+-- demand 1 of a rising list of conditions, of the answer and of the words lent
+
+cond-pair : {A B : Type 0} (t : Bool) (x y : A) (u v : B) → cond {A = A × B} t (x, u) (y, v) ≡ (cond t x y, cond t u v)
+cond-pair true x y u v = refl
+cond-pair false x y u v = refl
+
+pub fields-lowest : (cs : List (ℕ × Bool)) → Rising 0 cs → (k a b : ℕ) (done out : List ℕ)
+    → AnswersLowest {A = Packed × List ℕ} cs (λ r. r .0 .refusal) (λ n. (record { refusal = n; count = 0; bits = 0 }, out))
+    (fieldsAnswer (lowest cs) k a b, leftOf (lowest cs) done out)
+unfolding fieldsAnswer leftOf
+fields-lowest cs rising k a b done out =
+    let none : ℕ → Packed × List ℕ = λ n. (record { refusal = n; count = 0; bits = 0 }, out) in
+    subst (AnswersLowest cs (λ r. r .0 .refusal) none) (cond-pair (eqb (lowest cs) 0) _ _ done out)
+    (answers-lowest cs rising (λ r. r .0 .refusal) none (record { refusal = 0; count = k; bits = k * (b - a) }, done) refl (λ n. refl))
+
+-- the answer of a call with refusal n
+
+module _ (n k a b : ℕ) where
+  of-answer : (P : Packed → Type 0) → ((n ≡ 0 → ⊥) → P (record { refusal = n; count = 0; bits = 0 }))
+      → (n ≡ 0 → P (record { refusal = 0; count = k; bits = k * (b - a) })) → P (fieldsAnswer n k a b)
   unfolding fieldsAnswer
-  answer-refusal = by-number (fieldsRefusal k a b own other)
-    where
-      by-number : (r : ℕ) → cond {A = Packed} (eqb r 0) (record { refusal = 0; count = k; bits = k * (b - a) }) (record { refusal = r; count = 0; bits = 0 }) .refusal ≡ r
-      by-number zero = refl
-      by-number (suc r) = rw (ne-eqb (suc r) 0 (λ e. omega arith))
+  of-answer P zeros done = every-answer P n (λ r. record { refusal = r; count = 0; bits = 0 }) _ zeros done
 
-  -- the code's answer
+  pub answer-refused : (n ≡ 0 → ⊥) → _≡_ {A = Packed} (record { refusal = n; count = 0; bits = 0 }) (fieldsAnswer n k a b)
+  unfolding fieldsAnswer
+  answer-refused z = rw (ne-eqb n 0 z)
 
-  module _ {n : ℕ} (e : n ≡ fieldsRefusal k a b own other) where
-    pub answer-refused : (n ≡ 0 → ⊥) → _≡_ {A = Packed} (record { refusal = n; count = 0; bits = 0 }) (fieldsAnswer k a b own other)
-    unfolding fieldsAnswer
-    answer-refused z = rw (← e, ne-eqb n 0 z)
+  pub answer-done : n ≡ 0 → _≡_ {A = Packed} (record { refusal = 0; count = k; bits = k * (b - a) }) (fieldsAnswer n k a b)
+  unfolding fieldsAnswer
+  answer-done z = rw (eq-eqb n 0 z)
 
-    pub answer-done : n ≡ 0 → _≡_ {A = Packed} (record { refusal = 0; count = k; bits = k * (b - a) }) (fieldsAnswer k a b own other)
-    unfolding fieldsAnswer
-    answer-done z = rw (← e, eq-eqb n 0 z)
+  -- its first number is the refusal; the bits are the count for each field, and the count is k where the call is carried out
 
-    pub inside : n ≡ 0 → InLimits k a b own other
-    inside z = within (sym e ∙ z)
+  pub answer-refusal : fieldsAnswer n k a b .refusal ≡ n
+  answer-refusal = of-answer (λ (r : Packed). r .refusal ≡ n) (λ z. refl) (λ z. sym z)
 
-    -- the number of bits fits
-    pub bits-fit : k ≤ 64 → n ≡ 0 → k * (b - a) ≤ 131072
-    bits-fit h z = let w = inside z in bits-le h (omega (arith, w .end, w .own-limit))
+  pub answer-bits : fieldsAnswer n k a b .bits ≡ fieldsAnswer n k a b .count * (b - a)
+  answer-bits = of-answer (λ (r : Packed). r .bits ≡ r .count * (b - a)) (λ z. sym (zero-mul (b - a))) (λ z. refl)
 
-  -- what holds of zeros beside a refusal and of what is carried out holds of every answer
-  every-answer : (P : Packed → Type 0) → ((n : ℕ) → (n ≡ 0 → ⊥) → P (record { refusal = n; count = 0; bits = 0 }))
-      → P (record { refusal = 0; count = k; bits = k * (b - a) }) → P (fieldsAnswer k a b own other)
-  every-answer P zeros done = by (decLt 0 (fieldsRefusal k a b own other))
-    where
-      by : Dec (0 < fieldsRefusal k a b own other) → P (fieldsAnswer k a b own other)
-      by (yes h) =
-          let z : fieldsRefusal k a b own other ≡ 0 → ⊥ = λ q. omega arith in
-          subst P (answer-refused refl z) (zeros (fieldsRefusal k a b own other) z)
-      by (no h) = subst P (answer-done refl (omega arith)) done
+  pub answer-count : fieldsAnswer n k a b .refusal ≡ 0 → fieldsAnswer n k a b .count ≡ k
+  answer-count = of-answer (λ (r : Packed). r .refusal ≡ 0 → r .count ≡ k) (λ z q. absurd (z q)) (λ z q. refl)
 
-  -- so the bits are the count for each field, and the count is k where the call is carried out
+  pub answer-count-le : fieldsAnswer n k a b .count ≤ k
+  answer-count-le = of-answer (λ (r : Packed). r .count ≤ k) (λ z. omega arith) (λ z. omega arith)
 
-  pub answer-bits : fieldsAnswer k a b own other .bits ≡ fieldsAnswer k a b own other .count * (b - a)
-  answer-bits = every-answer (λ (r : Packed). r .bits ≡ r .count * (b - a)) (λ n z. sym (zero-mul (b - a))) refl
+-- what a call that is carried out leaves
+pub left-done : {n : ℕ} → n ≡ 0 → (done out : List ℕ) → leftOf n done out ≡ done
+unfolding leftOf
+left-done {n} z done out = rw (eq-eqb n 0 z)
 
-  pub answer-count : fieldsAnswer k a b own other .refusal ≡ 0 → fieldsAnswer k a b own other .count ≡ k
-  answer-count = every-answer (λ (r : Packed). r .refusal ≡ 0 → r .count ≡ k) (λ n z q. absurd (z q)) (λ q. refl)
+-- what a call answers and leaves, from what the code counted
+module _ {n k : ℕ} (a b : ℕ) {size number : ℕ} {r : Packed} (s : size ≡ k) (e : number ≡ n) (h : r ≡ fieldsAnswer number size a b) (done out : List ℕ) where
+  answered : r ≡ fieldsAnswer n k a b
+  answered = h ∙ ap₂ (λ (m j : ℕ). fieldsAnswer m j a b) e s
 
-  pub answer-count-le : fieldsAnswer k a b own other .count ≤ k
-  answer-count-le = every-answer (λ (r : Packed). r .count ≤ k) (λ n z. omega arith) (omega arith)
+  pub refused : (number ≡ 0 → ⊥) → (r ≡ fieldsAnswer n k a b) × (out ≡ leftOf n done out)
+  unfolding leftOf
+  refused z = (answered, rw (← e, ne-eqb number 0 z))
 
-  -- what a call answers and leaves, from the answer for fields of as many bits as the code counted
-  module _ {size : ℕ} {r : Packed} (s : size ≡ k) (e : r ≡ fieldsAnswer size a b own other) where
-    answered : r ≡ fieldsAnswer k a b own other
-    answered = e ∙ ap (λ (j : ℕ). fieldsAnswer j a b own other) s
-
-    number : r .refusal ≡ fieldsRefusal k a b own other
-    number = ap (λ (p : Packed). p .refusal) answered ∙ answer-refusal
-
-    pub limits : r .refusal ≡ 0 → InLimits k a b own other
-    limits z = inside number z
-
-    module _ (done out : List ℕ) where
-      pub refused : (r .refusal ≡ 0 → ⊥) → (r ≡ fieldsAnswer k a b own other) × (out ≡ leftOf k a b own other done out)
-      unfolding leftOf
-      refused z = (answered, rw (← number, ne-eqb (r .refusal) 0 z))
-
-      pub carried-out : r .refusal ≡ 0 → {left : List ℕ} → left ≡ done
-          → (r ≡ fieldsAnswer k a b own other) × (left ≡ leftOf k a b own other done out)
-      unfolding leftOf
-      carried-out z l = (answered, rw (← number, eq-eqb (r .refusal) 0 z) l)
+  pub carried-out : number ≡ 0 → {left : List ℕ} → left ≡ done → (r ≡ fieldsAnswer n k a b) × (left ≡ leftOf n done out)
+  carried-out z l = (answered, l ∙ sym (left-done (sym e ∙ z) done out))
 
 -- the part of a list from a up to b
 

@@ -1,9 +1,11 @@
 pub mod FilledLists
 pub mod Stream
 pub mod Reading
+pub mod SpareWords
 pub mod Gaps
 pub mod BitRoutes
 pub mod WholeWords
 pub mod FieldAnswers
 pub mod Turns
 pub mod Theorems
+pub mod RoundTrips

@@ -23,6 +23,13 @@ ofBits-same (suc w) f g e =
     let h = ofBits-same w (λ i. f (suc i)) (λ i. g (suc i)) (λ i l. e (suc i) (omega arith)) in
     omega (arith, h, e 0 (omega arith))
 
+pub ofBits-none : (w : ℕ) (f : ℕ → ℕ) → ((i : ℕ) → i < w → f i ≡ 0) → ofBits w f ≡ 0
+unfolding ofBits
+ofBits-none zero f z = refl
+ofBits-none (suc w) f z =
+    let h = ofBits-none w (λ i. f (suc i)) (λ i l. z (suc i) (omega arith)) in
+    omega (arith, h, z 0 (omega arith))
+
 ofBits-low : (a b : ℕ) (g : ℕ → ℕ) → ofBits (a + b) g % 2 ^ a ≡ ofBits a g
 ofBits-low a b g = ap (λ (n : ℕ). n % 2 ^ a) (ofBits-add a b g) ∙ low (ofBits b (λ i. g (a + i))) a (ofBits-lt a g)
 

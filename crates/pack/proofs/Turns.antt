@@ -18,7 +18,7 @@ use Rattle.pack.specs.declared.Taken.{Taken}
 use Rattle.pack.specs.Fields.{sizeOf, needed, fieldsOf, streamBit, streamOf, wordAt, packInto, scatteredAt, overwritten}
 use Rattle.pack.specs.Cursor.{cursorStart, Holds, Puts, PutsPair, Gathers, finished, Awaits, Takes}
 use Rattle.pack.proofs.FilledLists.{length-overwritten, fill-none, fill-next, map-at}
-use Rattle.pack.proofs.Stream.{ofBits-same}
+use Rattle.pack.proofs.Stream.{ofBits-same, ofBits-none}
 use Rattle.pack.proofs.Reading.{scatter-read}
 
 -- the stream of a list of fields
@@ -35,11 +35,6 @@ module _ (k : ℕ) (fs : List ℕ) where
   pub stream-end : (n : ℕ) → k * length fs ≤ n → streamBit k fs n ≡ 0
   unfolding streamBit
   stream-end n h = rw (le-ltb n (k * length fs) h)
-
-ofBits-none : (w : ℕ) (f : ℕ → ℕ) → ((i : ℕ) → f i ≡ 0) → ofBits w f ≡ 0
-unfolding ofBits
-ofBits-none zero f z = refl
-ofBits-none (suc w) f z = omega (arith, ofBits-none w (λ i. f (suc i)) (λ i. z (suc i)), z 0)
 
 -- room for all fields is room for the next one
 pub next-field : (k i len : ℕ) → i < len → k * i + k ≤ k * len
@@ -117,7 +112,7 @@ module _ (m : ℕ) (ws old : List ℕ) where
           let g : ℕ → ℕ = λ i. stream (64 * c .word + i) in
           let e : c .held + (64 - c .held) ≡ 64 = omega (arith, inv .within) in
           let z = ofBits-none (64 - c .held) (λ i. g (c .held + i))
-          (λ i. stream-end (sizeOf m) (fieldsOf m ws) (64 * c .word + (c .held + i))
+          (λ i _. stream-end (sizeOf m) (fieldsOf m ws) (64 * c .word + (c .held + i))
           (omega (arith, inv .at, ap (λ (n : ℕ). sizeOf m * n) (length-map ws (gatherOf 64 m)))))
           in
           inv .bits

@@ -53,6 +53,10 @@ packedBit ps n = bit (getD ps (n / 64) 0) (n % 64)
 unfoldable pub packInto : ℕ → List ℕ → List ℕ → List ℕ
 packInto m ws out = overwritten (needed (sizeOf m * length ws)) (wordAt (streamOf m ws)) out
 
+-- The spare bits of the last of the words that hold n bits, as a number: those from bit n to the end of the word. There are none if n is a multiple of 64.
+unfoldable pub spareBits : ℕ → List ℕ → ℕ
+spareBits n ps = ofBits (64 * needed n - n) (λ i. packedBit ps (n + i))
+
 -- "Unpack reads fields so laid from the first strip": field f of k bits
 unfoldable pub fieldAt : ℕ → List ℕ → ℕ → ℕ
 fieldAt k ps f = ofBits k (λ i. packedBit ps (f * k + i))

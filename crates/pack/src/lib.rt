@@ -1,12 +1,14 @@
-// Packed fields: the bits that a mask marks in each of many words, end to end (paper 01, 'Strips'; demand 2).
+// Packed fields: the bits that a mask marks in each of many words, end to end (paper 01, 'Strips'; paper 02, Reqs 01 and 02; demand 2).
 ghost use mathlib.Core.Path.{_≡_};
 ghost use Prim.Native.Nat.{_+_, _-_, _*_, _%_, _≤_, _<_};
+ghost use mathlib.Core.Bool.{not};
+ghost use lib.Dec.{eqb};
 ghost use lib.ListN.{length};
 ghost use Rattle.gather.specs.Gather.{gatherOf, scatterOf};
-ghost use Rattle.pack.specs.Fields.{sizeOf, needed, overwritten, streamOf, packInto, scatteredAt, upTo};
+ghost use Rattle.pack.specs.Fields.{sizeOf, needed, overwritten, streamOf, packInto, spareBits, scatteredAt, upTo};
 ghost use Rattle.pack.specs.Moves.{Parities, Moves};
 ghost use Rattle.pack.specs.Cursor.{cursorStart, Holds, Begins, Puts, PutsPair, Gathers, Copies, finished, Awaits, Takes};
-ghost use Rattle.pack.specs.Calls.{fieldsRefusal, fieldsAnswer, packAnswer, packedOut, unpackAnswer, unpackedOut};
+ghost use Rattle.pack.specs.Calls.{fieldsRefusal, unpackRefusal, fieldsAnswer, packAnswer, packedOut, unpackAnswer, unpackedOut};
 
 // What a call answers: 0, the count of the mask's ones and the number of bits, or the number of the refusal and zeros.
 #[repr(C)]
@@ -313,7 +315,15 @@ fn read_fields(mask: u64, size: u64, packed: &[u64], out: &mut [u64])
     read_pairs(moves, mask, size, packed, out);
 }
 
-// internal: fields of at most 64 bits. The lowest refusal of a call, where a and b cut the one of two slices that is `own` long; 0 if it is carried out.
+// internal: how many words the bits need
+fn words_needed(bits: u64) -> u64
+    requires { ⌜ bits ≤ 131072 ⌝ }
+    ensures { λ r. ⌜ r ≡ needed bits ⌝ }
+{
+    (bits + 63) / 64
+}
+
+// internal: fields of at most 64 bits. The lower of refusals 9 and 10 that applies, where a and b cut the one of two slices that is `own` long; else 0.
 fn refusal(size: u64, a: usize, b: usize, own: usize, other: usize) -> u8
     requires { ⌜ size ≤ 64 ⌝ }
     ensures { λ r. ⌜ r ≡ fieldsRefusal size a b own other ⌝ }
@@ -330,20 +340,47 @@ fn refusal(size: u64, a: usize, b: usize, own: usize, other: usize) -> u8
     if LONGEST < other {
         return bits::RANGE;
     }
-    let needed = (size * ((b - a) as u64) + 63) / 64;
+    let needed = words_needed(size * ((b - a) as u64));
     if (other as u64) < needed {
         return bits::SHORT;
     }
     bits::CARRIED_OUT
 }
 
-// internal: fields of at most 64 bits. The whole answer of a call.
-fn answer(size: u64, a: usize, b: usize, own: usize, other: usize) -> Packed
+// internal: packed words that hold the bits. Whether a spare bit of the last of them is one.
+fn has_spare_one(bits: u64, packed: &[u64]) -> bool
+    requires { ⌜ (bits ≤ 131072) × (needed bits ≤ length (now packed)) ⌝ }
+    ensures { λ r. ⌜ r ≡ not (eqb (spareBits bits (now (packed .entry))) 0) ⌝ }
+{
+    let used = bits % 64;
+    if used == 0 {
+        return false;
+    }
+    let last = packed[(words_needed(bits) - 1) as usize];
+    last >> used != 0
+}
+
+// internal: as `refusal`, where the other slice is packed words: 11 too.
+fn unpack_refusal(size: u64, a: usize, b: usize, own: usize, packed: &[u64]) -> u8
     requires { ⌜ size ≤ 64 ⌝ }
-    ensures { λ r. ⌜ r ≡ fieldsAnswer size a b own other ⌝ }
+    ensures { λ r. ⌜ r ≡ unpackRefusal size a b own (now (packed .entry)) ⌝ }
+{
+    let number = refusal(size, a, b, own, packed.len());
+    if number != 0 {
+        return number;
+    }
+    if has_spare_one(size * ((b - a) as u64), packed) {
+        return bits::SPARE;
+    }
+    number
+}
+
+// internal: within the limits, unless it is refused. The whole answer of a call with refusal `number`.
+fn answer(number: u8, size: u64, a: usize, b: usize) -> Packed
+    requires { ⌜ (size ≤ 64) × (number ≡ 0 → (a ≤ b) × (b ≤ 2048)) ⌝ }
+    ensures { λ r. ⌜ r ≡ fieldsAnswer number size a b ⌝ }
 {
     let count = size as u32;
-    let number = refusal(size, a, b, own, other);
     if number != 0 {
         return Packed {
             refusal: number,
@@ -364,22 +401,24 @@ pub fn pack(mask: u64, words: &[u64], a: usize, b: usize, out: &mut [u64]) -> Pa
         × (now (out .exit) ≡ packedOut mask (now (words .entry)) a b (now (out .entry))) ⌝ }
 {
     let size = bits::count(mask);
-    let answered = answer(size, a, b, words.len(), out.len());
-    if answered.refusal != 0 {
+    let number = refusal(size, a, b, words.len(), out.len());
+    let answered = answer(number, size, a, b);
+    if number != 0 {
         return answered;
     }
     write_fields(mask, size, &words[a..b], out);
     answered
 }
 
-// Packed fields, each brought to the marked places of a word of `out`, from number a up to b.
+// Packed fields, each brought to the marked places of a word of `out`, from number a up to b. Spare bits of the last word read must be zero.
 pub fn unpack(mask: u64, packed: &[u64], a: usize, b: usize, out: &mut [u64]) -> Packed
     ensures { λ r. ⌜ (r ≡ unpackAnswer mask (now (packed .entry)) a b (now (out .entry)))
         × (now (out .exit) ≡ unpackedOut mask (now (packed .entry)) a b (now (out .entry))) ⌝ }
 {
     let size = bits::count(mask);
-    let answered = answer(size, a, b, out.len(), packed.len());
-    if answered.refusal != 0 {
+    let number = unpack_refusal(size, a, b, out.len(), packed);
+    let answered = answer(number, size, a, b);
+    if number != 0 {
         return answered;
     }
     read_fields(mask, size, packed, &mut out[a..b]);

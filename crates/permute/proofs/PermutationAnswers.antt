@@ -10,7 +10,7 @@ use lib.Dec.{eqb}
 use lib.ListN.{length}
 use borrow.Author.Tests.{ne-eqb, eqb-true, not-false}
 use Rattle.bits.specs.Refusal.{logOf, accepted, lowest, Rising, IsLowest, AnswersLowest}
-use Rattle.bits.proofs.Refusals.{log-width, log-le, lowest-law, answers-lowest, none-applies}
+use Rattle.bits.proofs.Refusals.{log-width, log-le, lowest-law, lowest-more, answers-lowest, none-applies}
 use Rattle.network.specs.Calls.{controls}
 use Rattle.routing.specs.Lists.{ListPermutes, firstWords}
 use Rattle.permute.specs.declared.Routed.{Routed}
@@ -25,16 +25,6 @@ lowest-only cs r s (inl a) (inl b) = a .0 ∙ sym (b .0)
 lowest-only cs r s (inl a) (inr b) = absurd (a .1 s (b .0))
 lowest-only cs r s (inr a) (inl b) = absurd (b .1 r (a .0))
 lowest-only cs r s (inr a) (inr b) = omega (arith, a .1 s (b .0), b .1 r (a .0))
-
--- conditions after others count only if none of those holds
-lowest-more : (b : ℕ) (cs ds : List (ℕ × Bool)) → Rising b cs → lowest (cs ++ ds) ≡ cond (eqb (lowest cs) 0) (lowest ds) (lowest cs)
-lowest-more b [] ds r = refl
-lowest-more b (c ∷ cs) ds r = by (c .1) (lowest-more (c .0) cs ds (r .1))
-  where
-    by : (t : Bool) → lowest (cs ++ ds) ≡ cond (eqb (lowest cs) 0) (lowest ds) (lowest cs)
-        → cond t (c .0) (lowest (cs ++ ds)) ≡ cond (eqb (cond t (c .0) (lowest cs)) 0) (lowest ds) (cond t (c .0) (lowest cs))
-    by true e = let n : c .0 ≡ 0 → ⊥ = λ z. omega (arith, r .0) in rw (ne-eqb (c .0) 0 n)
-    by false e = e
 
 module _ (w : ℕ) (es : List ℕ) where
   -- the refusal, from the outcomes of the three tests: an accepted width, its length, every bit named once

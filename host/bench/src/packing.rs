@@ -4,7 +4,7 @@ use crate::bmi2;
 use crate::contest::Contest;
 use crate::masks::{compress, compress_by, expand, expand_by, moves, Mask};
 use crate::networks::{decoded, delta_swaps, swaps_of};
-use conformance::packing::{words_needed, LONGEST};
+use conformance::packing::{bits, clean_end, words_needed, LONGEST};
 use conformance::samples::{random_words, Random};
 use std::cell::RefCell;
 use std::hint::black_box;
@@ -30,18 +30,22 @@ pub struct Packing {
     call: OfWords,
     /// The lengths of the two lists, for a mask and so many fields.
     lengths: fn(u64, usize) -> (usize, usize),
+    /// Makes the end of the first list so that the call is carried out.
+    end: fn(u64, &mut [u64], usize),
 }
 
 /// Pack.
 pub const PACK: Packing = Packing {
     call: |mask, words, out| tb_pack(mask, words, 0, words.len(), out).bits,
     lengths: |mask, fields| (fields, words_needed(mask, 0, fields)),
+    end: |_, _, _| {},
 };
 
 /// Unpack.
 pub const UNPACK: Packing = Packing {
     call: |mask, packed, out| tb_unpack(mask, packed, 0, out.len(), out).bits,
     lengths: |mask, fields| (words_needed(mask, 0, fields), fields),
+    end: |mask, packed, fields| clean_end(mask, packed, 0, fields),
 };
 
 /// Pack or unpack by other methods, the last of them where the processor has it.
@@ -118,15 +122,19 @@ impl Packing {
         lists.call(self.call)
     }
 
-    /// Lists of so many fields, by such a mask.
+    /// Lists of so many fields, by such a mask, on which the call is carried out.
     pub fn lists(&self, random: &mut Random, mask: Mask, fields: usize) -> WordLists {
         let mask = mask(random);
         let (first, second) = (self.lengths)(mask, fields);
-        WordLists {
+        let mut first = random_words(random, first);
+        (self.end)(mask, &mut first, fields);
+        let lists = WordLists {
             mask,
-            first: random_words(random, first),
+            first,
             second: RefCell::new(vec![0; second]),
-        }
+        };
+        assert_eq!(self.on(&lists), bits(mask, 0, fields), "not refused");
+        lists
     }
 
     /// The call beside the methods, and beside a copy where that is all there is

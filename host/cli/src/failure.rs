@@ -45,6 +45,7 @@ pub const CONDITIONS: [&str; Refusal::ALL.len()] = [
     "a register number in use above 15",
     "a above b, b above the length of the words that a and b cut, or either list above 2,048 words",
     "the other list of words shorter than its bits need",
+    "a spare bit of the last packed word read is one",
 ];
 
 /// The condition of a refusal.

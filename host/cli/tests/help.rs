@@ -3,6 +3,7 @@
 mod support;
 
 use support::{command, folder, outcome, prints, run};
+use tigbayon::Refusal;
 
 /// The commands that the help lists.
 fn names() -> Vec<String> {
@@ -90,11 +91,9 @@ fn exit_statuses_and_refusals_are_listed() {
     for status in 0..=3 {
         assert!(overall.contains(&format!("\n  {status}  ")), "{status}");
     }
-    for refusal in 1..=10 {
-        assert!(
-            overall.contains(&format!("\n  {refusal:>2}  ")),
-            "{refusal}"
-        );
+    for refusal in Refusal::ALL {
+        let number = refusal.number();
+        assert!(overall.contains(&format!("\n  {number:>2}  ")), "{number}");
     }
 }
 

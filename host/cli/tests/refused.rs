@@ -129,6 +129,44 @@ fn by_too_few_words() {
     assert_refused(&["unpack", "0xFFF", "1", "0", "6"], Refusal::Short);
 }
 
+/// Of the last word that unpack reads alone; pack refuses none.
+#[test]
+fn by_a_spare_bit() {
+    let clean = "0x6005004003002001,0x9A";
+    for end in [
+        "0x19A",
+        "0x800000000000009A",
+        "FFFFFFFFFFFFFF9A",
+        "0x19A,0x9A",
+    ] {
+        let dirty = format!("0x6005004003002001,{end}");
+        for out in [[].as_slice(), &["--out", "7,7,7,7,7,7"], &["--length", "9"]] {
+            let args = [&["unpack", "0xFFF", &dirty, "0", "6"], out].concat();
+            assert_refused(&args, Refusal::Spare);
+        }
+    }
+    assert_refused(&["unpack", "0xFFF", clean, "0", "2"], Refusal::Spare);
+    let said = "refused 11: a spare bit of the last packed word read is one\n";
+    assert_eq!(run(&["unpack", "1", "2", "0", "1"]).error, said);
+    let beyond = format!("{clean},0x19A");
+    for packed in [clean, &beyond] {
+        assert_eq!(run(&["unpack", "0xFFF", packed, "0", "6"]).status, 0);
+    }
+    let ones = ["FFFFFFFFFFFFFFFF"; 2].join(",");
+    let args = ["pack", "0xFFF", &ones, "0", "1", "--out", &ones];
+    assert_eq!(run(&args).status, 0);
+}
+
+/// 9 and 10 come first.
+#[test]
+fn by_a_spare_bit_last() {
+    let ones = "FFFFFFFFFFFFFFFF";
+    let call = ["unpack", "0xFFF", ones, "0", "5"];
+    assert_refused(&call, Refusal::Spare);
+    assert_refused(&[&call[..], &["--length", "4"]].concat(), Refusal::Range);
+    assert_refused(&["unpack", "0xFFF", ones, "0", "6"], Refusal::Short);
+}
+
 /// A drawing of a refused call is not written.
 #[test]
 fn leave_no_file() {

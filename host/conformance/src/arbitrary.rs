@@ -2,7 +2,7 @@
 //! lengths and the cuts reach their limits and beyond.
 
 use crate::controls::Controls;
-use crate::packing::{words_needed, LONGEST};
+use crate::packing::{spare, words_needed, LONGEST};
 use crate::programs::{cycles, damage, program};
 use crate::samples::{any_controls, any_permutation, any_word, Random};
 use crate::unit::Operation;
@@ -109,6 +109,25 @@ pub fn other_length(random: &mut Random, mask: u64, (a, b): (usize, usize)) -> u
         2 => needed + random.below(4) as usize,
         3 => length(random),
         _ => needed,
+    }
+}
+
+/// The end of the words that unpack reads, clean so far: in some one spare bit
+/// becomes a one, in some the spare bits become any.
+pub fn end(random: &mut Random, mask: u64, packed: &mut [u64], (a, b): (usize, usize)) {
+    let Some((last, bits)) = spare(mask, a, b) else {
+        return;
+    };
+    let any = bits.start + random.below(64 - bits.start);
+    let dirt = match random.below(16) {
+        0..=2 => 1 << any,
+        3 => 1 << bits.start,
+        4 => 1 << 63,
+        5 => random.word() << bits.start,
+        _ => 0,
+    };
+    if let Some(word) = packed.get_mut(last) {
+        *word |= dirt;
     }
 }
 

@@ -1,7 +1,7 @@
 //! Every exported call on arbitrary arguments, held against its model in the
 //! whole answer and in everything that is lent.
 
-use crate::arbitrary::{budget, controls, cut, length, list, operation, other_length};
+use crate::arbitrary::{budget, controls, cut, end, length, list, operation, other_length};
 use crate::arbitrary::{permutation, register, widths, word};
 use crate::call::{Call, BUTTERFLY, DECODE, GATHER, GROUP, INVERSE, SCATTER};
 use crate::call::{PREPARE_BUTTERFLY, PREPARE_INVERSE, ROUTE, ROUTE_BUTTERFLY, ROUTE_INVERSE};
@@ -20,7 +20,7 @@ use std::iter::zip;
 use std::panic::{catch_unwind, resume_unwind};
 
 /// How many refusal numbers there are, 0 among them.
-const NUMBERS: usize = 11;
+const NUMBERS: usize = 12;
 
 /// An exported call.
 struct Target {
@@ -62,8 +62,10 @@ const TARGETS: [Target; 19] = [
     target("route_inverse", &[0, 1, 4, 5, 6], |random| {
         routed(random, ROUTE_INVERSE)
     }),
-    target("pack", &[0, 9, 10], |random| packed(random, PACK)),
-    target("unpack", &[0, 9, 10], |random| packed(random, UNPACK)),
+    target("pack", &[0, 9, 10], |random| packed(random, PACK, as_it_is)),
+    target("unpack", &[0, 9, 10, 11], |random| {
+        packed(random, UNPACK, end)
+    }),
     target("operate", &[0, 7, 8], |random| {
         operate(&mut bank(random), operation(random)).refusal
     }),
@@ -127,12 +129,18 @@ fn routed<R: Copy + Debug + PartialEq>(random: &mut Random, call: Call<[u8], R, 
     call.check(handed, &permutation(random, width), ()).refusal
 }
 
-fn packed(random: &mut Random, call: PackingCall) -> u8 {
+/// What is made of the end of the words that are read.
+type End = fn(&mut Random, u64, &mut [u64], (usize, usize));
+
+fn as_it_is(_: &mut Random, _: u64, _: &mut [u64], _: (usize, usize)) {}
+
+fn packed(random: &mut Random, call: PackingCall, end: End) -> u8 {
     let mask = word(random, 64);
     let length = length(random);
     let (a, b) = cut(random, length);
     let other = other_length(random, mask, (a, b));
-    let (first, mut second) = call.lists(random, length, other);
+    let (mut first, mut second) = call.lists(random, mask, (a, b), (length, other));
+    end(random, mask, &mut first, (a, b));
     call.check(mask, &first, a, b, &mut second).refusal
 }
 

@@ -2,9 +2,11 @@
 
 use crate::call::assert_agree;
 use crate::guards::{lent, only_read};
+use crate::low_ones;
 use crate::samples::{random_words, Random};
 use model::packing::Packed;
 use model::refusal::Answer;
+use std::ops::Range;
 use tigbayon::{Refusal, TbPacked};
 
 /// The most words of a list.
@@ -104,15 +106,21 @@ impl PackingCall {
     }
 
     /// Random words, a first and a second list, of these lengths: of the one
-    /// that a and b cut, and of the other.
-    pub fn lists(&self, random: &mut Random, cut: usize, other: usize) -> (Vec<u64>, Vec<u64>) {
+    /// that a and b cut, and of the other. The end of what unpack reads is clean.
+    pub fn lists(
+        &self,
+        random: &mut Random,
+        mask: u64,
+        (a, b): (usize, usize),
+        (cut, other): (usize, usize),
+    ) -> (Vec<u64>, Vec<u64>) {
         let cut = random_words(random, cut);
-        let other = random_words(random, other);
+        let mut other = random_words(random, other);
         if self.cuts_first {
-            (cut, other)
-        } else {
-            (other, cut)
+            return (cut, other);
         }
+        clean_end(mask, &mut other, a, b);
+        (other, cut)
     }
 }
 
@@ -124,6 +132,25 @@ pub fn bits(mask: u64, a: usize, b: usize) -> u64 {
 /// The words that they need.
 pub fn words_needed(mask: u64, a: usize, b: usize) -> usize {
     bits(mask, a, b).div_ceil(64) as usize
+}
+
+/// The number of the last word that unpack reads, and its spare bits. None are
+/// spare if the fields fill that word or have no bits, or if a and b cut no list.
+pub fn spare(mask: u64, a: usize, b: usize) -> Option<(usize, Range<u32>)> {
+    if a > b || b > LONGEST {
+        return None;
+    }
+    let in_last = bits(mask, a, b) % 64;
+    (in_last != 0).then(|| (words_needed(mask, a, b) - 1, in_last as u32..64))
+}
+
+/// Clears the spare bits of the last word that unpack reads, if the list has it.
+pub fn clean_end(mask: u64, packed: &mut [u64], a: usize, b: usize) {
+    if let Some((last, bits)) = spare(mask, a, b) {
+        if let Some(word) = packed.get_mut(last) {
+            *word &= low_ones(bits.start);
+        }
+    }
 }
 
 fn packed(answer: TbPacked) -> Answer<Packed> {

@@ -32,6 +32,8 @@ const PACKING: &str = "\
     pack 9 0 0: 6005004003002001 9a 7\n\
     unpack 10 0 0: 7 1 2 3 4 5 9a6 7\n\
     unpack 9 0 0: 7 1 2 3 4 5 9a6 7\n\
+    unpack 11 0 0: 7 1 2 3 4 5 9a6 7\n\
+    unpack 10 0 0: 7 1 2 3 4 5 9a6 7\n\
     pack 0 64 0:\n\
     unpack 0 64 0:\n\
     pack 9 0 0:\n\

@@ -1,10 +1,11 @@
-//! The misreadings that paper 01 warns of ("False splices"), and those of request
-//! 01 of paper 02, the count of marked bits: the library has none of them, and
-//! each would be seen. Group by a shift of 64 is among the laws and is row 13.
+//! The misreadings that paper 01 warns of ("False splices"), and those of requests
+//! 01 and 02 of paper 02, the count of marked bits and the spare bits of packed
+//! words: the library has none of them, and each would be seen. Group by a shift of
+//! 64 is among the laws and is row 13.
 
 use conformance::call::{decode, BUTTERFLY, GATHER, INVERSE, MASK_CALLS, NETWORKS, SCATTER};
 use conformance::controls::{pass_all, reversed, stages, Controls};
-use conformance::packing::PACKING_CALLS;
+use conformance::packing::{clean_end, PACK, PACKING_CALLS, UNPACK};
 use conformance::samples::for_each;
 use conformance::{low_ones, WIDTHS};
 use model::refusal::Answer;
@@ -136,5 +137,107 @@ fn a_refused_call_does_not_count_its_mask() {
         let answer = call.check(0xFFF, &[1], 1, 0, &mut [7]);
         assert_eq!(answer, Answer::refused(9));
         assert_ne!(answer.result.count, misread);
+    }
+}
+
+/// Whether unpack refuses a spare bit of these words, into so many words by a mask
+/// of the `count` rightmost bits; nothing else is refused.
+fn refuses_spare(count: usize, packed: &[u64], fields: usize) -> bool {
+    let mask = low_ones(count as u32);
+    let answer = UNPACK.check(mask, packed, 0, fields, &mut vec![7; fields]);
+    assert!([0, 11].contains(&answer.refusal));
+    answer.refusal == 11
+}
+
+/// "the spare bits of the last word that unpack reads", and not those of the next
+/// word nor of the last of the list: "Words beyond the last one read stay free."
+#[test]
+fn spare_bits_are_looked_for_in_the_last_word_read() {
+    for count in 1..64 {
+        for fields in (1..=9).filter(|fields| count * fields % 64 != 0) {
+            let last = count * fields / 64;
+            for dirty in 0..last + 4 {
+                let mut packed = vec![0; last + 4];
+                packed[dirty] = 1 << 63;
+                let refuses = refuses_spare(count, &packed, fields);
+                assert_eq!(refuses, dirty == last);
+                for misread in [last + 1, packed.len() - 1] {
+                    let alike = dirty != last && dirty != misread;
+                    assert_eq!(refuses == (packed[misread] != 0), alike);
+                }
+            }
+        }
+    }
+}
+
+/// A last word that the fields fill has no bit to spare. By a shift of 64, which the
+/// processor takes for one of 0, all its bits would be spare; were the last word
+/// read number k*(b - a)/64, all those of the next.
+#[test]
+fn a_full_word_has_no_spare_bits() {
+    for count in 1..=64_usize {
+        for fields in 1..=64 {
+            let bits = count * fields;
+            let full = bits % 64 == 0;
+            let mut packed = vec![u64::MAX; bits.div_ceil(64) + 1];
+            clean_end(low_ones(count as u32), &mut packed, 0, fields);
+            assert!(!refuses_spare(count, &packed, fields));
+            let misread = packed[(bits - 1) / 64] >> (bits % 64) != 0;
+            assert_eq!(misread, full);
+            let misread = packed[bits / 64] >> (bits % 64) != 0;
+            assert_eq!(misread, full);
+        }
+    }
+}
+
+/// All spare bits "must be zero": the lowest one and bit 63 too.
+#[test]
+fn no_spare_bit_is_left_out() {
+    for count in 1..64 {
+        for p in 0..64 {
+            let refuses = refuses_spare(count, &[1 << p], 1);
+            assert_eq!(refuses, p >= count);
+            let without_lowest = p > count;
+            assert_eq!(refuses == without_lowest, p != count);
+            let without_top = p >= count && p < 63;
+            assert_eq!(refuses == without_top, p != 63);
+        }
+    }
+}
+
+/// "11, a spare bit is one, after 10": asked first, of the last word read or of
+/// the last one there is, it would be the answer to each of these calls.
+#[test]
+fn a_spare_bit_is_not_asked_for_first() {
+    for (number, length, out_length) in [(9, 2, 5), (10, 1, 6), (9, 1, 5), (11, 2, 6)] {
+        let packed = vec![u64::MAX; length];
+        let misread = packed[length - 1] >> (72 % 64) != 0;
+        assert!(misread);
+        UNPACK.assert_number(number, 0xFFF, &packed, (0, 6), &mut vec![7; out_length]);
+    }
+}
+
+/// "buffers and registers are untouched": the end is asked for before the first
+/// field is written, and not when it is reached.
+#[test]
+fn a_spare_bit_is_asked_for_before_a_word_is_written() {
+    let mut out = [7; 8];
+    let answer = UNPACK.check(0xFFF, &[0x6005_0040_0300_2001, 0x19A], 1, 7, &mut out);
+    assert_eq!(answer, Answer::refused(11));
+    assert_eq!(out, [7; 8]);
+    let mut misread = [7; 8];
+    UNPACK.check(0xFFF, &[0x6005_0040_0300_2001, 0x9A], 1, 7, &mut misread);
+    assert_eq!(misread, [7, 1, 2, 3, 4, 5, 0x9A6, 7]);
+}
+
+/// The end "that unpack reads", and not one that pack reads, or writes over.
+#[test]
+fn pack_does_not_ask_for_spare_bits() {
+    for count in 1..64 {
+        let mut out = [u64::MAX; 2];
+        assert!(refuses_spare(count, &out, 1));
+        let mask = low_ones(count as u32);
+        PACK.assert_number(0, mask, &[u64::MAX; 2], (0, 1), &mut out);
+        assert_eq!(out, [mask, u64::MAX]);
     }
 }

@@ -1,7 +1,9 @@
 //! Library, wrapper and model agree on packing.
 
 use conformance::low_ones;
-use conformance::packing::{words_needed, COUNTS, LONGEST, PACKING_CALLS};
+use conformance::packing::{
+    clean_end, spare, words_needed, COUNTS, LONGEST, PACKING_CALLS, UNPACK,
+};
 use conformance::samples::{for_each, mask_of, random_words, Random};
 
 /// For each count of marked bits, the rightmost ones, the leftmost, and any.
@@ -19,7 +21,8 @@ fn pairs(most: usize) -> impl Iterator<Item = (usize, usize)> {
 }
 
 /// Checks both calls on lists of these lengths: all ones over zeros, zeros over
-/// ones, and random words over random words.
+/// ones, and random words over random words; unpack with a clean end too, else
+/// ones and random words are mostly refused.
 fn check_fillings(random: &mut Random, mask: u64, lengths: (usize, usize), cut: (usize, usize)) {
     let ((first, second), (a, b)) = (lengths, cut);
     let fillings = [
@@ -27,10 +30,12 @@ fn check_fillings(random: &mut Random, mask: u64, lengths: (usize, usize), cut: 
         (vec![0; first], vec![u64::MAX; second]),
         (random_words(random, first), random_words(random, second)),
     ];
-    for (first, second) in fillings {
+    for (mut first, second) in fillings {
         for call in PACKING_CALLS {
             call.check(mask, &first, a, b, &mut second.clone());
         }
+        clean_end(mask, &mut first, a, b);
+        UNPACK.check(mask, &first, a, b, &mut second.clone());
     }
 }
 
@@ -54,9 +59,21 @@ fn check_others(random: &mut Random, mask: u64, length: usize, (a, b): (usize, u
     let one_short = exact.checked_sub(1).map(|other| (other, 10));
     for (other, number) in others.into_iter().chain(one_short) {
         for call in PACKING_CALLS {
-            let (first, mut second) = call.lists(random, length, other);
+            let (first, mut second) = call.lists(random, mask, (a, b), (length, other));
             call.assert_number(number, mask, &first, (a, b), &mut second);
         }
+    }
+    check_dirty_end(random, mask, length, (a, b));
+}
+
+/// Checks unpack with one spare bit that is a one, if there is any, and random
+/// words beyond.
+fn check_dirty_end(random: &mut Random, mask: u64, length: usize, (a, b): (usize, usize)) {
+    if let Some((last, bits)) = spare(mask, a, b) {
+        let lengths = (length, (last + 3).min(LONGEST));
+        let (mut first, mut second) = UNPACK.lists(random, mask, (a, b), lengths);
+        first[last] |= 1 << (bits.start + random.below(64 - bits.start));
+        UNPACK.assert_number(11, mask, &first, (a, b), &mut second);
     }
 }
 

@@ -1,8 +1,8 @@
-//! What paper 01 ("Strips") and request 01 of paper 02 say of packed words, asked
-//! of the library.
+//! What paper 01 ("Strips") and requests 01 and 02 of paper 02 say of packed words,
+//! asked of the library.
 
 use conformance::low_ones;
-use conformance::packing::{bits, words_needed};
+use conformance::packing::{bits, clean_end, words_needed};
 use conformance::samples::{for_each, random_words, Random};
 use std::iter::zip;
 use tigbayon::{gather, pack, scatter, unpack, Packed, Refusal};
@@ -41,7 +41,9 @@ fn both_count_the_bits_of_a_field_and_those_of_all() {
             let mut out = words.to_vec();
             let answer = pack(mask, words, a..b, &mut out)?;
             assert_eq!(answer, Packed { count, bits });
-            let answer = unpack(mask, words, a..b, &mut out)?;
+            let mut packed = words.to_vec();
+            clean_end(mask, &mut packed, a, b);
+            let answer = unpack(mask, &packed, a..b, &mut out)?;
             assert_eq!(answer, Packed { count, bits });
         }
         Ok(())
@@ -100,25 +102,137 @@ fn pack_writes_no_more_than_its_bits_and_spare_zeros() {
     });
 }
 
-/// "Spare bits of the last word read are not looked at."
+/// Words that unpack into words a to b-1, in no more than they need: any but for
+/// the clean end.
+fn any_packed(random: &mut Random, mask: u64, a: usize, b: usize) -> Vec<u64> {
+    let mut packed = random_words(random, words_needed(mask, a, b));
+    clean_end(mask, &mut packed, a, b);
+    packed
+}
+
+/// "From this release the spare bits of the last word that unpack reads must be
+/// zero."
 #[test]
-fn unpack_does_not_look_at_spare_bits_or_at_words_after_them() {
+fn unpack_refuses_any_spare_bits_but_zeros() {
     holds(|random, mask, words, a, b| {
-        let mut packed = packed(mask, words, a, b)?;
-        let mut expected = words.to_vec();
-        unpack(mask, &packed, a..b, &mut expected)?;
+        let mut packed = any_packed(random, mask, a, b);
+        unpack(mask, &packed, a..b, &mut words.to_vec())?;
         let in_last = bits(mask, a, b) % 64;
-        if let Some(last) = packed.last_mut().filter(|_| in_last != 0) {
-            *last |= random.word() & !low_ones(in_last as u32);
+        let dirt = random.word() << in_last;
+        if in_last != 0 && dirt != 0 {
+            *packed.last_mut().expect("a word") |= dirt;
+            let mut out = words.to_vec();
+            let outcome = unpack(mask, &packed, a..b, &mut out);
+            assert_eq!(outcome, Err(Refusal::Spare));
+            assert_eq!(out, words);
         }
-        packed.extend(random_words(random, 2));
-        let mut out = words.to_vec();
-        unpack(mask, &packed, a..b, &mut out)?;
-        assert_eq!(out, expected);
         Ok(())
     });
 }
 
+/// "Words beyond the last one read stay free."
+#[test]
+fn unpack_does_not_look_at_words_beyond_the_last_one_read() {
+    holds(|random, mask, words, a, b| {
+        let packed = any_packed(random, mask, a, b);
+        let mut expected = words.to_vec();
+        let answer = unpack(mask, &packed, a..b, &mut expected)?;
+        for beyond in [vec![0], vec![u64::MAX], vec![0, 1], random_words(random, 3)] {
+            let mut out = words.to_vec();
+            let packed = [&packed[..], &beyond].concat();
+            assert_eq!(unpack(mask, &packed, a..b, &mut out)?, answer);
+            assert_eq!(out, expected);
+        }
+        Ok(())
+    });
+}
+
+/// "So pack after unpack, with the same mask, a and b, returns the words read, for
+/// every strip accepted."
+#[test]
+fn pack_after_unpack_returns_the_words_read() {
+    holds(|random, mask, words, a, b| {
+        let packed = any_packed(random, mask, a, b);
+        let read = packed.len();
+        let and_beyond = [&packed[..], &random_words(random, 2)].concat();
+        let mut unpacked = words.to_vec();
+        let answer = unpack(mask, &and_beyond, a..b, &mut unpacked)?;
+        let before = random_words(random, read + 3);
+        let mut out = before.clone();
+        assert_eq!(pack(mask, &unpacked, a..b, &mut out)?, answer);
+        assert_eq!(out[..read], packed);
+        assert_eq!(out[read..], before[read..]);
+        Ok(())
+    });
+}
+
+/// Whatever lay where it writes, and lies beyond.
+#[test]
+fn unpack_accepts_what_pack_leaves() {
+    holds(|random, mask, words, a, b| {
+        let used = words_needed(mask, a, b);
+        for before in [vec![u64::MAX; used + 2], random_words(random, used + 2)] {
+            let mut left = before;
+            let answer = pack(mask, words, a..b, &mut left)?;
+            let mut out = words.to_vec();
+            assert_eq!(unpack(mask, &left, a..b, &mut out)?, answer);
+        }
+        Ok(())
+    });
+}
+
+/// "Two houses sent strips that unpack alike but differ in their last word": no
+/// two that are accepted do.
+#[test]
+fn words_that_unpack_alike_agree_in_every_word_read() {
+    holds(|random, mask, words, a, b| {
+        let one = any_packed(random, mask, a, b);
+        let mut changed = one.clone();
+        if !changed.is_empty() {
+            let place = random.below(changed.len() as u32) as usize;
+            changed[place] ^= random.word() & random.word() & random.word();
+        }
+        clean_end(mask, &mut changed, a, b);
+        for other in [one.clone(), changed, any_packed(random, mask, a, b)] {
+            let [unpacked, other_unpacked] = [&one, &other].map(|read| {
+                let packed = [&read[..], &random_words(random, 2)].concat();
+                let mut out = words.to_vec();
+                unpack(mask, &packed, a..b, &mut out).map(|_| out)
+            });
+            assert_eq!(unpacked? == other_unpacked?, one == other);
+        }
+        Ok(())
+    });
+}
+
+/// A bit of the words read is one of a field, and moves to one place, or spare.
+#[test]
+fn a_changed_bit_of_the_words_read_changes_one_bit_or_is_refused() {
+    holds(|random, mask, words, a, b| {
+        let mut packed = any_packed(random, mask, a, b);
+        let mut expected = words.to_vec();
+        unpack(mask, &packed, a..b, &mut expected)?;
+        let k = mask.count_ones() as usize;
+        for n in 0..64 * packed.len() {
+            packed[n / 64] ^= 1 << (n % 64);
+            let mut out = words.to_vec();
+            let outcome = unpack(mask, &packed, a..b, &mut out);
+            packed[n / 64] ^= 1 << (n % 64);
+            if n < k * (b - a) {
+                outcome?;
+                out[a + n / k] ^= scatter(64, mask, 1 << (n % k))?.word;
+                assert_eq!(out, expected);
+            } else {
+                assert_eq!(outcome, Err(Refusal::Spare));
+                assert_eq!(out, words);
+            }
+        }
+        Ok(())
+    });
+}
+
+/// A field alone. Scatter does not look at bits k and up of its word, unpack
+/// refuses a one there, unless there is no bit to read.
 #[test]
 fn one_field_is_gather_and_scatter() {
     for_each(64, 200, |mask, word| {
@@ -127,13 +241,19 @@ fn one_field_is_gather_and_scatter() {
         let gathered = gather(64, mask, word).expect("not refused");
         let field = if mask == 0 { !word } else { gathered.word };
         assert_eq!(out, [field]);
-        unpack(mask, &[word], 0..1, &mut out).expect("not refused");
         let scattered = scatter(64, mask, word).expect("not refused");
-        assert_eq!(out, [scattered.word]);
+        let low = word & low_ones(gathered.count);
+        let spare = mask != 0 && low != word;
+        for (packed, spare) in [(low, false), (word, spare)] {
+            let mut out = [!scattered.word];
+            let refused = unpack(mask, &[packed], 0..1, &mut out).err();
+            assert_eq!(refused, spare.then_some(Refusal::Spare));
+            assert_eq!(out[0] == scattered.word, !spare);
+        }
     });
 }
 
-/// "With no bits, pack writes no word", and unpack zeroes its words.
+/// "With no bits, pack writes no word", and unpack reads none and zeroes its words.
 #[test]
 fn no_marked_bits() {
     holds(|_, _, words, a, b| {
@@ -142,8 +262,11 @@ fn no_marked_bits() {
         assert_eq!(pack(0, words, a..b, &mut out)?, nothing);
         assert_eq!(out, words);
         assert_eq!(pack(0, words, a..b, &mut [])?, nothing);
-        assert_eq!(unpack(0, &[], a..b, &mut out)?, nothing);
-        assert!(out[a..b].iter().all(|&word| word == 0));
+        for packed in [&[], words] {
+            let mut out = words.to_vec();
+            assert_eq!(unpack(0, packed, a..b, &mut out)?, nothing);
+            assert!(out[a..b].iter().all(|&word| word == 0));
+        }
         Ok(())
     });
 }

@@ -1,9 +1,11 @@
 //! Damaged cuts and lists of words get the lowest number that applies, zeros for the
 //! rest, and every word stays as it was.
 
-use conformance::packing::{words_needed, COUNTS, LONGEST, PACK, PACKING_CALLS, UNPACK};
-use conformance::samples::{mask_of, Random};
+use conformance::packing::{bits, spare, words_needed};
+use conformance::packing::{COUNTS, LONGEST, PACK, PACKING_CALLS, UNPACK};
+use conformance::samples::{mask_of, random_words, Random};
 use model::packing::Packed;
+use std::collections::BTreeSet;
 
 /// The words of row 11 of paper 01.
 const ROW_11: [u64; 6] = [1, 2, 3, 4, 5, 0x9A6];
@@ -45,13 +47,18 @@ fn number(mask: u64, (a, b): (usize, usize), cut: usize, other: usize) -> u8 {
     }
 }
 
-/// Checks both calls on random words, lists of these lengths.
+/// Checks both calls on random words, lists of these lengths, and unpack on all
+/// ones, of which spare bits are refusal 11 if nothing else is refused.
 fn assert_number(random: &mut Random, mask: u64, cut: (usize, usize), length: usize, other: usize) {
+    let number = number(mask, cut, length, other);
     for call in PACKING_CALLS {
-        let (first, mut second) = call.lists(random, length, other);
-        let number = number(mask, cut, length, other);
+        let (first, mut second) = call.lists(random, mask, cut, (length, other));
         call.assert_number(number, mask, &first, cut, &mut second);
     }
+    let dirty = number == 0 && spare(mask, cut.0, cut.1).is_some();
+    let number = if dirty { 11 } else { number };
+    let mut out = random_words(random, length);
+    UNPACK.assert_number(number, mask, &vec![u64::MAX; other], cut, &mut out);
 }
 
 #[test]
@@ -120,7 +127,7 @@ fn short_parts_of_the_other_list_are_refusal_10() {
     let mut random = Random::default();
     for count in 1..=64 {
         let mask = mask_of(&mut random, count);
-        let (words, mut other) = PACK.lists(&mut random, 64, 64);
+        let (words, mut other) = PACK.lists(&mut random, mask, (0, 64), (64, 64));
         for short in 0..words_needed(mask, 0, 64) {
             PACK.assert_number(10, mask, &words, (0, 64), &mut other[..short]);
             UNPACK.assert_number(10, mask, &words[..short], (0, 64), &mut other);
@@ -128,18 +135,85 @@ fn short_parts_of_the_other_list_are_refusal_10() {
     }
 }
 
-/// Request 01 of paper 02: "A refused call shows 0", of a full mask too.
+/// Each place of a spare bit, after any bits of fields and before any word; over
+/// the counts of marked bits and of fields, each number of bits in the last word.
+#[test]
+fn each_spare_bit_alone_is_refusal_11() {
+    let mut random = Random::default();
+    let mut remainders = BTreeSet::new();
+    for count in 0..=64 {
+        let mask = mask_of(&mut random, count);
+        for fields in 0..=64 {
+            let cut = (2, 2 + fields);
+            let lengths = (fields + 3, words_needed(mask, 0, fields) + 1);
+            let (mut packed, mut out) = UNPACK.lists(&mut random, mask, cut, lengths);
+            let bits = bits(mask, 0, fields) as usize;
+            for n in bits..bits.next_multiple_of(64) {
+                packed[n / 64] ^= 1 << (n % 64);
+                UNPACK.assert_number(11, mask, &packed, cut, &mut out);
+                packed[n / 64] ^= 1 << (n % 64);
+            }
+            UNPACK.assert_number(0, mask, &packed, cut, &mut out);
+            remainders.insert(bits % 64);
+        }
+    }
+    assert_eq!(remainders.len(), 64);
+}
+
+/// Among zeros: each bit of the fields, each spare bit, and each of the two words
+/// beyond.
+#[test]
+fn each_bit_alone_is_refusal_11_exactly_if_it_is_spare() {
+    let mut random = Random::default();
+    for count in 0..=64 {
+        let mask = mask_of(&mut random, count);
+        for fields in 0..=5 {
+            let bits = bits(mask, 0, fields) as usize;
+            let spare = bits..bits.next_multiple_of(64);
+            let mut packed = vec![0; words_needed(mask, 0, fields) + 2];
+            for n in 0..64 * packed.len() {
+                packed[n / 64] = 1 << (n % 64);
+                let number = if spare.contains(&n) { 11 } else { 0 };
+                let mut out = vec![7; fields];
+                UNPACK.assert_number(number, mask, &packed, (0, fields), &mut out);
+                packed[n / 64] = 0;
+            }
+        }
+    }
+}
+
+/// Whatever the last one is: here all words are ones.
+#[test]
+fn full_words_have_no_spare_bits() {
+    let mut random = Random::default();
+    for count in 0..=64 {
+        let mask = mask_of(&mut random, count);
+        for fields in (0..=128).filter(|&fields| bits(mask, 0, fields) % 64 == 0) {
+            let read = words_needed(mask, 0, fields);
+            for length in [read, read + 1, LONGEST] {
+                let mut out = vec![7; fields];
+                UNPACK.assert_number(0, mask, &vec![u64::MAX; length], (0, fields), &mut out);
+            }
+        }
+    }
+}
+
+/// Request 01 of paper 02: "A refused call shows 0", of a full mask too; the end of
+/// full words is not refused.
 #[test]
 fn no_marked_bits_are_counted_beside_a_refusal() {
     let mut random = Random::default();
+    let nothing = Packed { count: 0, bits: 0 };
     for call in PACKING_CALLS {
         for (number, (a, b), other) in [(9, (3, 2), 6), (9, (0, 7), 6), (10, (0, 6), 5)] {
-            let (first, mut second) = call.lists(&mut random, 6, other);
+            let (first, mut second) = call.lists(&mut random, u64::MAX, (a, b), (6, other));
             let answer = call.check(u64::MAX, &first, a, b, &mut second);
-            let (count, bits) = (0, 0);
-            assert_eq!(answer.refusal, number);
-            assert_eq!(answer.result, Packed { count, bits });
+            assert_eq!((answer.refusal, answer.result), (number, nothing));
         }
+    }
+    for mask in [1, u64::MAX >> 1, u64::MAX << 1] {
+        let answer = UNPACK.check(mask, &[u64::MAX; 6], 0, 6, &mut [7; 6]);
+        assert_eq!((answer.refusal, answer.result), (11, nothing));
     }
 }
 
@@ -162,5 +236,31 @@ fn the_lowest_number_wins() {
         call.assert_number(9, u64::MAX, &[], (0, usize::MAX), &mut []);
         call.assert_number(9, u64::MAX, &[], (usize::MAX, 0), &mut []);
         call.assert_number(0, u64::MAX, &[], (0, 0), &mut []);
+    }
+}
+
+/// 11 with 9, with 10, where the end is not there to be read, and with both.
+#[test]
+fn a_spare_bit_is_refused_last() {
+    let ones = [u64::MAX; LONGEST + 1];
+    UNPACK.assert_number(11, 0xFFF, &ones[..2], (0, 6), &mut [7; 6]);
+    UNPACK.assert_number(9, 0xFFF, &ones[..2], (0, 6), &mut [7; 5]);
+    UNPACK.assert_number(9, 0xFFF, &ones[..2], (6, 0), &mut [7; 6]);
+    UNPACK.assert_number(9, 0xFFF, &ones[..2], (0, 6), &mut [7; LONGEST + 1]);
+    UNPACK.assert_number(9, 0xFFF, &ones, (0, 6), &mut [7; 6]);
+    UNPACK.assert_number(10, 0xFFF, &ones[..1], (0, 6), &mut [7; 6]);
+    UNPACK.assert_number(9, 0xFFF, &ones[..1], (0, 6), &mut [7; 5]);
+}
+
+/// Not of what it reads nor of what it writes over.
+#[test]
+fn pack_refuses_no_spare_bit() {
+    let mut random = Random::default();
+    for count in 0..=64 {
+        let mask = mask_of(&mut random, count);
+        for fields in 0..=6 {
+            let mut out = vec![u64::MAX; words_needed(mask, 0, fields) + 1];
+            PACK.assert_number(0, mask, &[u64::MAX; 6], (0, fields), &mut out);
+        }
     }
 }

@@ -3,7 +3,7 @@
 
 use conformance::arbitrary::{controls, cut, list, operation, permutation};
 use conformance::arbitrary::{register, widths, word};
-use conformance::packing::LONGEST;
+use conformance::packing::{clean_end, LONGEST};
 use conformance::permutations::{one_loop, FIXED};
 use conformance::programs::{bank, program};
 use conformance::samples::{any_swaps, random_permutation, random_words, Random};
@@ -144,7 +144,12 @@ fn packed(gauge: &mut Gauge, call: impl Fn(u64, &[u64], usize, usize, &mut [u64]
     let first = random_words(random, LONGEST);
     let mut second = first.clone();
     for (a, b) in [(0, LONGEST), cut(random, LONGEST)] {
-        gauge.measure(|| call(mask, &first, a, b, &mut second));
+        // Unpack refuses the random end.
+        let mut clean = first.clone();
+        clean_end(mask, &mut clean, a, b);
+        for first in [&first, &clean] {
+            gauge.measure(|| call(mask, first, a, b, &mut second));
+        }
     }
 }
 

@@ -1,7 +1,7 @@
-//! Packed words ("Strips" of paper 01, request 01 of paper 02).
+//! Packed words ("Strips" of paper 01, requests 01 and 02 of paper 02).
 
 use crate::bits::{bits_of, marked, word_of};
-use crate::refusal::{Answer, RANGE, SHORT};
+use crate::refusal::{Answer, RANGE, SHORT, SPARE};
 
 /// "Strips and the register unit use width 64."
 const WIDTH: usize = 64;
@@ -57,18 +57,26 @@ pub fn pack(mask: u64, words: &[u64], a: usize, b: usize, out: &mut [u64]) -> An
 /// "Unpack reads fields so laid from the first strip, writes each scattered
 /// into words a to b-1 of the second, and keeps its other words."
 ///
+/// Paper 02: "From this release the spare bits of the last word that unpack reads
+/// must be zero." "Words beyond the last one read stay free."
+///
 /// ```
 /// use model::packing::{unpack, Packed};
+/// use model::refusal::{Answer, SPARE};
 ///
 /// let mut out = [7; 4];
-/// let answer = unpack(0xF0, &[0x21], 1, 3, &mut out);
+/// let answer = unpack(0xF0, &[0x21, 5], 1, 3, &mut out);
 /// assert_eq!(answer.result, Packed { count: 4, bits: 8 });
 /// assert_eq!(out, [7, 0x10, 0x20, 7]);
+///
+/// let answer = unpack(0xF0, &[0x121], 1, 3, &mut out);
+/// assert_eq!(answer, Answer::refused(SPARE));
 /// ```
 pub fn unpack(mask: u64, packed: &[u64], a: usize, b: usize, out: &mut [u64]) -> Answer<Packed> {
     let marked = marked(&bits_of(WIDTH, mask));
-    let conditions = conditions(marked.len(), a, b, out.len(), packed.len());
-    Answer::of(&conditions, || {
+    let [range, short] = conditions(marked.len(), a, b, out.len(), packed.len());
+    let spare = (SPARE, spare_one(bits(marked.len(), a, b), packed));
+    Answer::of(&[range, short, spare], || {
         let mut stream = packed.iter().flat_map(|&word| bits_of(WIDTH, word));
         let mut bits = 0;
         for written in &mut out[a..b] {
@@ -84,13 +92,28 @@ pub fn unpack(mask: u64, packed: &[u64], a: usize, b: usize, out: &mut [u64]) ->
     })
 }
 
-/// The refusals of both calls, each with whether it applies: a and b cut
+/// The refusals that both calls share, each with whether it applies: a and b cut
 /// words of length `cut`, and the other list holds the k×(b-a) bits.
 fn conditions(k: usize, a: usize, b: usize, cut: usize, other: usize) -> [(u8, bool); 2] {
-    let bits = k as u128 * b.saturating_sub(a) as u128;
     let room = WIDTH as u128 * other as u128;
     [
         (RANGE, a > b || b > cut || cut > LONGEST || other > LONGEST),
-        (SHORT, bits > room),
+        (SHORT, bits(k, a, b) > room),
     ]
+}
+
+/// "k×(b-a)"; no bits if a is above b.
+fn bits(k: usize, a: usize, b: usize) -> u128 {
+    k as u128 * b.saturating_sub(a) as u128
+}
+
+/// Paper 02: "a spare bit is one". Spare are the bits after so many, up to the
+/// end of the word that holds the last of them; where that word is not there,
+/// none is one.
+fn spare_one(bits: u128, packed: &[u64]) -> bool {
+    let width = WIDTH as u128;
+    (bits..bits.next_multiple_of(width)).any(|n| {
+        let word = packed.get((n / width) as usize);
+        word.is_some_and(|&word| bits_of(WIDTH, word)[(n % width) as usize])
+    })
 }

@@ -1,5 +1,5 @@
-//! Refused calls ("Calls turned back" of paper 01): the numbers of its table, and
-//! the lowest of them.
+//! Refused calls ("Calls turned back" of paper 01, request 02 of paper 02): the
+//! numbers, and the lowest of them.
 
 /// The answer's number where the call is carried out.
 pub const NONE: u8 = 0;
@@ -25,6 +25,8 @@ pub const REGISTER: u8 = 8;
 pub const RANGE: u8 = 9;
 /// "the other strip shorter than its bits need"
 pub const SHORT: u8 = 10;
+/// Paper 02: "a spare bit is one"
+pub const SPARE: u8 = 11;
 
 /// The answer of a call.
 #[derive(Clone, Copy, Debug, PartialEq, Eq)]

@@ -50,14 +50,16 @@ pub fn pack(
 /// Reads fields so packed and writes each, scattered by `mask`, into the words
 /// of `range` of `out`. Answers as [`pack`] does.
 ///
-/// Spare bits of the last word read are not looked at. The other words of `out`
-/// stay as they were. If the call is refused, every word does.
+/// Spare bits of the last word read must be zero; words after it are not looked
+/// at. So [`pack`] of the range of `out`, by the same mask, gives the words read.
+/// The other words of `out` stay as they were. If the call is refused, every word
+/// does.
 ///
 /// # Errors
 ///
 /// [`Refusal::Range`], if `range` does not lie within `out` or either list is
-/// above 2,048 words, and [`Refusal::Short`], if `packed` does not hold the
-/// bits.
+/// above 2,048 words, [`Refusal::Short`], if `packed` does not hold the bits, and
+/// [`Refusal::Spare`], if a spare bit of the last word read is one.
 ///
 /// ```
 /// use tigbayon::{unpack, Packed, Refusal};
@@ -69,6 +71,12 @@ pub fn pack(
 ///
 /// assert_eq!(unpack(0xFFF, &packed, 1..9, &mut out), Err(Refusal::Range));
 /// assert_eq!(unpack(0xFFF, &packed[1..], 1..7, &mut out), Err(Refusal::Short));
+///
+/// // 72 bits leave bits 8 to 63 of the second word spare; the third is not read.
+/// let dirty = [0x6005_0040_0300_2001, 0x19A];
+/// assert_eq!(unpack(0xFFF, &dirty, 1..7, &mut out), Err(Refusal::Spare));
+/// let beyond = [0x6005_0040_0300_2001, 0x9A, 0x19A];
+/// assert_eq!(unpack(0xFFF, &beyond, 1..7, &mut out), Ok(Packed { count: 12, bits: 72 }));
 /// ```
 pub fn unpack(
     mask: u64,

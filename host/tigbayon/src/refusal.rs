@@ -31,11 +31,13 @@ pub enum Refusal {
     Range = 9,
     /// The other list of words is shorter than its bits need.
     Short = 10,
+    /// A spare bit of the last packed word read is one.
+    Spare = 11,
 }
 
 impl Refusal {
     /// Every refusal, by rising number.
-    pub const ALL: [Refusal; 10] = [
+    pub const ALL: [Refusal; 11] = [
         Refusal::Width,
         Refusal::Above,
         Refusal::Unused,
@@ -46,6 +48,7 @@ impl Refusal {
         Refusal::Register,
         Refusal::Range,
         Refusal::Short,
+        Refusal::Spare,
     ];
 
     /// The number, which is part of the interface.
@@ -71,6 +74,7 @@ impl Refusal {
             Refusal::Register => "register number in use above 15",
             Refusal::Range => "range not within its words, or a list above 2,048 words",
             Refusal::Short => "other list of words shorter than its bits need",
+            Refusal::Spare => "spare bit of the last packed word read is one",
         }
     }
 

@@ -1,9 +1,10 @@
 -- `pack::pack` meets its contract. Assumes nothing.
+use mathlib.Core.Path.{sym, _∙_}
 use native.Mathlib.Omega.{arith}
 use lib.ListN.{length}
 use Rattle.bits.proofs.Rank.{rank-le}
 use Rattle.pack.specs.Fields.{sizeOf}
-use Rattle.pack.proofs.FieldAnswers.{InLimits, refused, carried-out, limits, cut-room}
+use Rattle.pack.proofs.FieldAnswers.{InLimits, within, fields-number, both-within, refused, carried-out, cut-room}
 use borrow.Author.Needs.{needs}
 use Rattle.pack.proofs.pack.Statement.{statement}
 use Rattle.pack.proofs.pack.Tie as tie
@@ -11,17 +12,28 @@ use Rattle.pack.proofs.pack.Tie as tie
 count-requires : tie.Need-count-requires
 count-requires c κs = search needs
 
+refusal-requires : tie.Need-refusal-requires
+refusal-requires c κs = omega (arith, rank-le (c .before .before .before .args .mask) 64, c .count .ensures)
+
 answer-requires : tie.Need-answer-requires
-answer-requires c κs = omega (arith, rank-le (c .before .before .before .args .mask) 64, c .count .ensures)
+answer-requires c κs = (
+  omega (arith, rank-le (c .before .before .before .before .args .mask) 64, c .before .count .ensures),
+  λ z. both-within _ _ _ _ _ (within _ _ _ _ _ (sym (c .refusal .ensures) ∙ z)),
+)
 
 returns : tie.Need-returns
-returns c = refused _ _ _ _ _ (c .before .before .before .count .ensures) (c .before .before .answer .ensures) _ _ (c .if1 .taken)
+returns c =
+    let e = c .before .before in
+    let s = e .before .count .ensures in
+    refused _ _ s (fields-number _ _ _ _ _ s (e .refusal .ensures)) (c .before .answer .ensures) _ _ (c .if1 .taken)
 
 -- a call that is not refused is within the limits
 allowed : (c : tie.Else1)
     → let a = c .before .before .before .before .before .before .args in
     InLimits (sizeOf (a .mask)) (a .a) (a .b) (length (a .words .now)) (length (a .out .now))
-allowed c = limits _ _ _ _ _ (c .before .before .before .count .ensures) (c .before .before .answer .ensures) (c .if1 .left)
+allowed c =
+    let e = c .before .before in
+    within _ _ _ _ _ (sym (fields-number _ _ _ _ _ (e .before .count .ensures) (e .refusal .ensures)) ∙ c .if1 .left)
 
 mul-write-fields : tie.Need-mul-write-fields
 mul-write-fields c = omega (arith, allowed c)
@@ -46,14 +58,18 @@ same-length c = search needs
 
 returns-2 : tie.Need-returns-2
 returns-2 c =
-    let e = c .before .before .before .before .before in
-    carried-out _ _ _ _ _ (e .before .before .before .count .ensures) (e .before .before .answer .ensures) _ _ (e .if1 .left) (c .before .before .write-fields .ensures)
+    let d = c .before .before .before .before .before in
+    let e = d .before .before in
+    let s = e .before .count .ensures in
+    carried-out _ _ s (fields-number _ _ _ _ _ s (e .refusal .ensures)) (d .before .answer .ensures) _ _ (d .if1 .left)
+    (c .before .before .write-fields .ensures)
 
 pub pack-spec : {M : Type 1} → statement M
 pack-spec =
     tie.close
     (tie.spec
     count-requires
+    refusal-requires
     answer-requires
     returns
     mul-write-fields

@@ -34,25 +34,26 @@ returns-4 c =
 asked : (c : tie.Else4) → let a = c .before .before .before .before .args in a .size * (a .b - a .a) ≤ 131072
 asked c = bits-le (search needs) (search needs)
 
-mul-needed : tie.Need-mul-needed
-mul-needed c = record { fits = omega (arith, asked c) }
+mul-words-needed : tie.Need-mul-words-needed
+mul-words-needed c = record { fits = omega (arith, asked c) }
 
-add-needed : tie.Need-add-needed
-add-needed c = record { fits = omega (arith, asked c) }
+words-needed-requires : tie.Need-words-needed-requires
+words-needed-requires c κs = asked c
 
 returns-5 : tie.Need-returns-5
 unfolding fieldsRefusal
 returns-5 c =
+    let e = c .before .before in
     simp (
-      le-ltb _ _ (c .before .before .before .before .if1 .left),
-      le-ltb _ _ (c .before .before .before .if2 .left),
-      le-ltb 2048 _ (c .before .before .if3 .left),
-      le-ltb 2048 _ (c .before .if4 .left),
-      lt-ltb _ _ (c .if5 .taken),
+      le-ltb _ _ (e .before .before .before .if1 .left),
+      le-ltb _ _ (e .before .before .if2 .left),
+      le-ltb 2048 _ (e .before .if3 .left),
+      le-ltb 2048 _ (e .if4 .left),
+      lt-ltb _ _ (rw (c .before .words-needed .ensures) at (c .if5 .taken)),
     )
 
 returns-6 : tie.Need-returns-6
 returns-6 c = by-none _ _ _ _ _ (search needs)
 
 pub refusal-spec : {M : Type 1} → statement M
-refusal-spec = tie.close (tie.spec returns returns-2 returns-3 returns-4 mul-needed add-needed returns-5 returns-6)
+refusal-spec = tie.close (tie.spec returns returns-2 returns-3 returns-4 mul-words-needed words-needed-requires returns-5 returns-6)

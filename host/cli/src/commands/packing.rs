@@ -28,7 +28,10 @@ Prints how many bits are packed or unpacked and the count of marked bits, in dec
 then all words of the list that is written into.
 ";
 
-const REFUSALS: &[Refusal] = &[Refusal::Range, Refusal::Short];
+const SPARE_NOTES: &str = "\
+The bits of the last word read that belong to no field are spare, and must be zero;
+words after it are not looked at.
+";
 
 const A: Argument = Argument {
     name: "A",
@@ -55,7 +58,7 @@ pub const PACK: Command = Command {
     ],
     options: &[&CHOICES],
     notes: &[NOTES],
-    refusals: REFUSALS,
+    refusals: &[Refusal::Range, Refusal::Short],
     examples: &[
         Example {
             call: "pack 0xFFF 1,2,3,4,5,0x9A6 0 6",
@@ -94,16 +97,20 @@ pub const UNPACK: Command = Command {
         B,
     ],
     options: &[&CHOICES],
-    notes: &[NOTES],
-    refusals: REFUSALS,
+    notes: &[NOTES, SPARE_NOTES],
+    refusals: &[Refusal::Range, Refusal::Short, Refusal::Spare],
     examples: &[
         Example {
             call: "unpack 0xFFF 0x6005004003002001,0x9A 0 6",
             prints: "72 bits, count 12\n0x1,0x2,0x3,0x4,0x5,0x9A6",
         },
         Example {
-            call: "unpack 0xFFF 0x6005004003002001,0x9A 1 3 --out 7,7,7,7",
+            call: "unpack 0xFFF 0x2001 1 3 --out 7,7,7,7",
             prints: "24 bits, count 12\n0x7,0x1,0x2,0x7",
+        },
+        Example {
+            call: "unpack 0xFFF 0x6005004003002001,0x19A 0 6",
+            prints: "refused 11: a spare bit of the last packed word read is one",
         },
     ],
     perform: |given| {

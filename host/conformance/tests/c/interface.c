@@ -136,6 +136,7 @@ static void print_packing(void)
 {
     uint64_t words[6] = {1, 2, 3, 4, 5, 0x9A6};
     uint64_t packed[3] = {7, 7, 7};
+    const uint64_t dirty[3] = {0x6005004003002001, 0x800000000000009A, 7};
     uint64_t out[8] = {7, 7, 7, 7, 7, 7, 7, 7};
     TbPacked answer = tb_pack(0xFFF, words, 6, 0, 6, packed, 3);
 
@@ -149,6 +150,10 @@ static void print_packing(void)
     answer = tb_unpack(0xFFF, packed, 1, 1, 7, out, 8);
     print_packed("unpack", answer, out, 8);
     answer = tb_unpack(0xFFF, packed, 3, 0, SIZE_MAX, out, 8);
+    print_packed("unpack", answer, out, 8);
+    answer = tb_unpack(0xFFF, dirty, 3, 0, 6, out, 8);
+    print_packed("unpack", answer, out, 8);
+    answer = tb_unpack(0xFFF, dirty, 1, 0, 6, out, 8);
     print_packed("unpack", answer, out, 8);
     print_packed("pack", tb_pack(UINT64_MAX, NULL, 0, 0, 0, NULL, 0), NULL, 0);
     print_packed("unpack", tb_unpack(UINT64_MAX, NULL, 0, 0, 0, NULL, 0), NULL, 0);
@@ -216,10 +221,10 @@ int main(void)
     const TbControls2 decoded = tb_decode(8, 0xAD);
 
     print_layouts();
-    printf("numbers %d %d %d %d %d %d %d %d %d %d %d\n", TB_CARRIED_OUT, TB_REFUSAL_WIDTH,
+    printf("numbers %d %d %d %d %d %d %d %d %d %d %d %d\n", TB_CARRIED_OUT, TB_REFUSAL_WIDTH,
            TB_REFUSAL_ABOVE, TB_REFUSAL_UNUSED, TB_REFUSAL_LENGTH, TB_REFUSAL_ENTRY,
            TB_REFUSAL_NOT_REALISED, TB_REFUSAL_KIND, TB_REFUSAL_REGISTER, TB_REFUSAL_RANGE,
-           TB_REFUSAL_SHORT);
+           TB_REFUSAL_SHORT, TB_REFUSAL_SPARE);
     print_gathered("gather", tb_gather(8, 0xAD, 0xB6));
     print_gathered("scatter", tb_scatter(8, 0xAD, 0x1A));
     print_gathered("group", tb_group(8, 0xAD, 0xB6));
