@@ -100,6 +100,10 @@ module _ (m : ℕ) (hm : m < 2 ^ 64) (ws out : List ℕ) (a b : ℕ) (h : packAn
             ∙ unpack-pack m hm a b ws (w .start) (w .end) out ys,
       )
 
+-- how many words the fields of words a to b-1 need: those that unpack reads
+abbrev pub wordsRead : ℕ → ℕ → ℕ → ℕ
+wordsRead m a b = needed (sizeOf m * (b - a))
+
 -- Req 02: "pack after unpack, with the same mask, a and b, returns the words read", whatever stood after them and where they come.
 
 module _ (m : ℕ) (ps : List ℕ) (fit : (j : ℕ) → getD ps j 0 < 2 ^ 64) where
@@ -173,8 +177,8 @@ module _ (m : ℕ) (ps : List ℕ) (fit : (j : ℕ) → getD ps j 0 < 2 ^ 64) wh
         length-append (take a out) (upTo (b - a) f ++ drop b out)
         ∙ omega (arith, length-take-le a out (omega arith), length-append (upTo (b - a) f) (drop b out), length-upTo f (b - a), length-drop b out)
 
-    pub pack-unpack : needed (sizeOf m * (b - a)) ≤ length ps → spareBits (sizeOf m * (b - a)) ps ≡ 0 → (ys : List ℕ)
-        → packInto m (cut a b (unpackInto m ps a b out)) ys ≡ take (needed (sizeOf m * (b - a))) ps ++ drop (needed (sizeOf m * (b - a))) ys
+    pub pack-unpack : wordsRead m a b ≤ length ps → spareBits (sizeOf m * (b - a)) ps ≡ 0 → (ys : List ℕ)
+        → packInto m (cut a b (unpackInto m ps a b out)) ys ≡ take (wordsRead m a b) ps ++ drop (wordsRead m a b) ys
     pack-unpack r clean ys = ap (λ (ws : List ℕ). packInto m ws ys) cut-unpacked ∙ read-back (b - a) r clean ys
 
   -- The same of the calls: if unpack is carried out, so is pack of what it left, into words enough, and answers what unpack answered.
@@ -189,15 +193,15 @@ module _ (m : ℕ) (ps : List ℕ) (fit : (j : ℕ) → getD ps j 0 < 2 ^ 64) wh
     unpacked-is = left-done unpack-number-is (unpackInto m ps a b out) out
 
     pack-back : (ys : List ℕ)
-        → packInto m (cut a b (unpackedOut m ps a b out)) ys ≡ take (needed (sizeOf m * (b - a))) ps ++ drop (needed (sizeOf m * (b - a))) ys
+        → packInto m (cut a b (unpackedOut m ps a b out)) ys ≡ take (wordsRead m a b) ps ++ drop (wordsRead m a b) ys
     pack-back ys =
         let w = unpack-allowed in
         ap (λ (ws : List ℕ). packInto m (cut a b ws) ys) unpacked-is
         ∙ pack-unpack a b out (w .0 .start) (w .0 .end) (w .0 .room) (w .1) ys
 
-    pub calls-pack-unpack : (ys : List ℕ) → needed (sizeOf m * (b - a)) ≤ length ys → length ys ≤ 2048
+    pub calls-pack-unpack : (ys : List ℕ) → wordsRead m a b ≤ length ys → length ys ≤ 2048
         → (packAnswer m (unpackedOut m ps a b out) a b ys ≡ unpackAnswer m ps a b out)
-        × (packedOut m (unpackedOut m ps a b out) a b ys ≡ take (needed (sizeOf m * (b - a))) ps ++ drop (needed (sizeOf m * (b - a))) ys)
+        × (packedOut m (unpackedOut m ps a b out) a b ys ≡ take (wordsRead m a b) ps ++ drop (wordsRead m a b) ys)
     calls-pack-unpack ys r u =
         let w = unpack-allowed .0 in
         let ws = unpackedOut m ps a b out in
@@ -214,9 +218,9 @@ module _ (m : ℕ) (ps : List ℕ) (fit : (j : ℕ) → getD ps j 0 < 2 ^ 64) wh
 pub calls-unpack-injective : (m a b : ℕ) (ps : List ℕ) → ((j : ℕ) → getD ps j 0 < 2 ^ 64) → (qs : List ℕ) → ((j : ℕ) → getD qs j 0 < 2 ^ 64)
     → (out ys : List ℕ) → unpackAnswer m ps a b out .refusal ≡ 0 → unpackAnswer m qs a b ys .refusal ≡ 0
     → cut a b (unpackedOut m ps a b out) ≡ cut a b (unpackedOut m qs a b ys)
-    → take (needed (sizeOf m * (b - a))) ps ≡ take (needed (sizeOf m * (b - a))) qs
+    → take (wordsRead m a b) ps ≡ take (wordsRead m a b) qs
 calls-unpack-injective m a b ps f qs g out ys h k e =
-    let c = needed (sizeOf m * (b - a)) in
+    let c = wordsRead m a b in
     let none : (zs : List ℕ) → zs ++ drop c [] ≡ zs = λ zs. ap (λ (l : List ℕ). zs ++ l) (drop-of-length-le [] {i = c} (omega arith)) ∙ append-nil zs in
     sym (none (take c ps))
     ∙ sym (pack-back m ps f a b out h [])
@@ -226,11 +230,11 @@ calls-unpack-injective m a b ps f qs g out ys h k e =
 
 -- "Words beyond the last one read stay free": of the packed words unpack's outcome, refused or not, depends on those read alone, if there are as many and none
 -- too many.
-module _ (m a b : ℕ) (ps qs : List ℕ) (e : take (needed (sizeOf m * (b - a))) ps ≡ take (needed (sizeOf m * (b - a))) qs) where
-  same-bit : (n : ℕ) → n < 64 * needed (sizeOf m * (b - a)) → packedBit ps n ≡ packedBit qs n
+module _ (m a b : ℕ) (ps qs : List ℕ) (e : take (wordsRead m a b) ps ≡ take (wordsRead m a b) qs) where
+  same-bit : (n : ℕ) → n < 64 * wordsRead m a b → packedBit ps n ≡ packedBit qs n
   unfolding packedBit
   same-bit n h =
-      let c = needed (sizeOf m * (b - a)) in
+      let c = wordsRead m a b in
       let l : n / 64 < c = omega arith in
       ap (λ (x : ℕ). bit x (n % 64))
       (sym (getD-take c ps (n / 64) 0 l) ∙ ap (λ (ws : List ℕ). getD ws (n / 64) 0) e ∙ getD-take c qs (n / 64) 0 l)
@@ -251,11 +255,11 @@ module _ (m a b : ℕ) (ps qs : List ℕ) (e : take (needed (sizeOf m * (b - a))
       (ofBits-same (sizeOf m) (λ i. packedBit ps (f * sizeOf m + i)) (λ i. packedBit qs (f * sizeOf m + i))
       (λ i l. same-bit (f * sizeOf m + i) (omega (arith, next-field (sizeOf m) f (b - a) h))))))
 
-  module _ (out : List ℕ) (h : needed (sizeOf m * (b - a)) ≤ length ps) (k : needed (sizeOf m * (b - a)) ≤ length qs) (u : length ps ≤ 2048) (v : length qs ≤ 2048) where
+  module _ (out : List ℕ) (h : wordsRead m a b ≤ length ps) (k : wordsRead m a b ≤ length qs) (u : length ps ≤ 2048) (v : length qs ≤ 2048) where
     same-refusal : unpackRefusal (sizeOf m) a b (length out) ps ≡ unpackRefusal (sizeOf m) a b (length out) qs
     unfolding unpackRefusal
     same-refusal =
-        let c = needed (sizeOf m * (b - a)) in
+        let c = wordsRead m a b in
         let long = le-ltb 2048 (length ps) u ∙ sym (le-ltb 2048 (length qs) v) in
         let short = le-ltb (length ps) c h ∙ sym (le-ltb (length qs) c k) in
         λ i. lowest

@@ -23,11 +23,12 @@ use Rattle.pack.proofs.FieldAnswers.{fields-lowest, answer-bits, answer
 -- Demand 1, of each call, with the words lent to it. Of every answer, refused or not: the bits are the count for each word from a up to b. Req 01: the count
 -- is the length of the list of marked places if the call is carried out, and 0 to 64.
 module _ (m : ℕ) (first : List ℕ) (a b : ℕ) (out : List ℕ) where
-  abbrev packing : ℕ
-  packing = fieldsRefusal (sizeOf m) a b (length first) (length out)
+  -- the refusal of each call
+  abbrev packs : ℕ
+  packs = fieldsRefusal (sizeOf m) a b (length first) (length out)
 
-  abbrev unpacking : ℕ
-  unpacking = unpackRefusal (sizeOf m) a b (length out) first
+  abbrev unpacks : ℕ
+  unpacks = unpackRefusal (sizeOf m) a b (length out) first
 
   pub pack-lowest : AnswersLowest {A = Packed × List ℕ} (fieldsConditions (sizeOf m) a b (length first) (length out)) (λ r. r .0 .refusal)
       (λ n. (record { refusal = n; count = 0; bits = 0 }, out)) (packAnswer m first a b out, packedOut m first a b out)
@@ -41,22 +42,22 @@ module _ (m : ℕ) (first : List ℕ) (a b : ℕ) (out : List ℕ) where
   unpack-lowest = fields-lowest (unpackConditions (sizeOf m) a b (length out) first) (omega arith) (sizeOf m) a b (unpackInto m first a b out) out
 
   pub pack-bits : packAnswer m first a b out .bits ≡ packAnswer m first a b out .count * (b - a)
-  pack-bits = answer-bits packing (sizeOf m) a b
+  pack-bits = answer-bits packs (sizeOf m) a b
 
   pub pack-count : packAnswer m first a b out .refusal ≡ 0 → packAnswer m first a b out .count ≡ length (marked m 64)
-  pack-count h = answer-count packing (sizeOf m) a b h ∙ sym (length-marked m 64)
+  pack-count h = answer-count packs (sizeOf m) a b h ∙ sym (length-marked m 64)
 
   pub pack-count-le : packAnswer m first a b out .count ≤ 64
-  pack-count-le = omega (arith, answer-count-le packing (sizeOf m) a b, rank-le m 64)
+  pack-count-le = omega (arith, answer-count-le packs (sizeOf m) a b, rank-le m 64)
 
   pub unpack-bits : unpackAnswer m first a b out .bits ≡ unpackAnswer m first a b out .count * (b - a)
-  unpack-bits = answer-bits unpacking (sizeOf m) a b
+  unpack-bits = answer-bits unpacks (sizeOf m) a b
 
   pub unpack-count : unpackAnswer m first a b out .refusal ≡ 0 → unpackAnswer m first a b out .count ≡ length (marked m 64)
-  unpack-count h = answer-count unpacking (sizeOf m) a b h ∙ sym (length-marked m 64)
+  unpack-count h = answer-count unpacks (sizeOf m) a b h ∙ sym (length-marked m 64)
 
   pub unpack-count-le : unpackAnswer m first a b out .count ≤ 64
-  unpack-count-le = omega (arith, answer-count-le unpacking (sizeOf m) a b, rank-le m 64)
+  unpack-count-le = omega (arith, answer-count-le unpacks (sizeOf m) a b, rank-le m 64)
 
 -- bit n of d fields of k bits is bit n mod k of field n / k
 pub field-place : (k d n : ℕ) → n < k * d → (n / k < d) × (n % k < k) × (n ≡ k * (n / k) + n % k)
