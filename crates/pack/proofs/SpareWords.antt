@@ -4,7 +4,7 @@ use mathlib.Core.List.{List}
 use Prim.Native.Nat.{ℕ, _+_, _-_, _*_, _/_, _%_, _^_, _<_, _≤_}
 use native.Mathlib.Omega.{arith}
 use lib.ListN.{getD}
-use Rattle.bits.specs.Bit.{bit, ofBits}
+use Rattle.bits.specs.Bit.{bit}
 use Rattle.bits.proofs.Word.{bit-of-zero}
 use Rattle.pack.specs.Fields.{needed, packedBit, spareBits}
 use Rattle.pack.proofs.Stream.{ofBits-none, upper}

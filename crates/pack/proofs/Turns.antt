@@ -1,12 +1,12 @@
 -- One field more, in the loops over the fields: the cursor's place, the room for it, and what is left when the last one is done. Assumes nothing.
 use mathlib.Core.Path.{_≡_, refl, sym, _∙_, ap, ap₂}
 use mathlib.Core.List.{List}
-use Prim.Native.Nat.{ℕ, zero, suc, _+_, _-_, _*_, _/_, _%_, _^_, _<_, _≤_}
+use Prim.Native.Nat.{ℕ, _+_, _-_, _*_, _/_, _%_, _^_, _<_, _≤_}
 use native.Mathlib.Omega.{arith}
 use native.Mathlib.Decide.{ℕ-discrete}
 use native.Mathlib.Nat.{mul-le-mul-left}
 use lib.Arith.{digits-lt, digits-div, digits-mod}
-use lib.ListN.{length, getD, set, length-map}
+use lib.ListN.{length, getD, length-map}
 use borrow.Author.Tests.{lt-ltb, le-ltb, eq-eqb, ne-eqb}
 use Rattle.bits.specs.Bit.{bit, ofBits}
 use Rattle.bits.proofs.Word.{bit-mod-two, bit-ofBits, ofBits-lt, ofBits-add, ext}

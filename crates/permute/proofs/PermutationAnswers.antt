@@ -2,14 +2,14 @@
 -- Assumes nothing.
 use mathlib.Core.Path.{_≡_, refl, sym, _∙_, ap}
 use mathlib.Core.Logic.{inl, inr}
-use mathlib.Core.Bool.{Bool, true, false, not, cond}
-use mathlib.Core.List.{List, [], _∷_, _++_}
+use mathlib.Core.Bool.{Bool, true, not, cond}
+use mathlib.Core.List.{List, [], _∷_}
 use Prim.Native.Nat.{ℕ, _^_, _≤_}
 use native.Mathlib.Omega.{arith}
 use lib.Dec.{eqb}
 use lib.ListN.{length}
-use borrow.Author.Tests.{ne-eqb, eqb-true, not-false}
-use Rattle.bits.specs.Refusal.{logOf, accepted, lowest, Rising, IsLowest, AnswersLowest}
+use borrow.Author.Tests.{eqb-true, not-false}
+use Rattle.bits.specs.Refusal.{logOf, accepted, lowest, IsLowest, AnswersLowest}
 use Rattle.bits.proofs.Refusals.{log-width, log-le, lowest-law, lowest-more, answers-lowest, none-applies}
 use Rattle.network.specs.Calls.{controls}
 use Rattle.routing.specs.Lists.{ListPermutes, firstWords}
