@@ -59,10 +59,6 @@ module _ (k a b own other : ℕ) where
         le-ltb other (needed (k * (b - a))) (w .room),
       )
 
-  -- the refusal for fields of as many bits as the code counted
-  pub fields-number : {size number : ℕ} → size ≡ k → number ≡ fieldsRefusal size a b own other → number ≡ fieldsRefusal k a b own other
-  fields-number s e = e ∙ ap (λ (j : ℕ). fieldsRefusal j a b own other) s
-
   -- what the code asks of a and b, and that the number of bits fits
 
   pub both-within : InLimits k a b own other → (a ≤ b) × (b ≤ 2048)
@@ -79,9 +75,6 @@ module _ (k a b own : ℕ) (ps : List ℕ) where
   unpack-within e =
       let n = none-applies (unpackConditions k a b own ps) (omega arith) e in
       (limits-hold k a b own (length ps) (n .0) (n .1 .0), eqb-true (spareBits (k * (b - a)) ps) 0 (not-false _ (n .1 .1 .0)))
-
-  pub unpack-number : {size number : ℕ} → size ≡ k → number ≡ unpackRefusal size a b own ps → number ≡ unpackRefusal k a b own ps
-  unpack-number s e = e ∙ ap (λ (j : ℕ). unpackRefusal j a b own ps) s
 
   -- from the outcomes of the code's two tests
   pub unpack-refusal-by : {n : ℕ} {t : Bool} → n ≡ fieldsRefusal k a b own (length ps) → t ≡ not (eqb (spareBits (k * (b - a)) ps) 0)

@@ -53,7 +53,7 @@ packedBit ps n = bit (getD ps (n / 64) 0) (n % 64)
 unfoldable pub packInto : ℕ → List ℕ → List ℕ → List ℕ
 packInto m ws out = overwritten (needed (sizeOf m * length ws)) (wordAt (streamOf m ws)) out
 
--- The spare bits of the last of the words that hold n bits, as a number: those from bit n to the end of the word. There are none if n is a multiple of 64.
+-- "Spare bits of the last word" (papers 01 and 02) of those that hold n bits, as a number: the bits from n to its end. There are none if n is a multiple of 64.
 unfoldable pub spareBits : ℕ → List ℕ → ℕ
 spareBits n ps = ofBits (64 * needed n - n) (λ i. packedBit ps (n + i))
 

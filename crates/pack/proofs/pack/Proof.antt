@@ -4,7 +4,7 @@ use native.Mathlib.Omega.{arith}
 use lib.ListN.{length}
 use Rattle.bits.proofs.Rank.{rank-le}
 use Rattle.pack.specs.Fields.{sizeOf}
-use Rattle.pack.proofs.FieldAnswers.{InLimits, within, fields-number, both-within, refused, carried-out, cut-room}
+use Rattle.pack.proofs.FieldAnswers.{InLimits, within, both-within, refused, carried-out, cut-room}
 use borrow.Author.Needs.{needs}
 use Rattle.pack.proofs.pack.Statement.{statement}
 use Rattle.pack.proofs.pack.Tie as tie
@@ -25,7 +25,7 @@ returns : tie.Need-returns
 returns c =
     let e = c .before .before in
     let s = e .before .count .ensures in
-    refused _ _ s (fields-number _ _ _ _ _ s (e .refusal .ensures)) (c .before .answer .ensures) _ _ (c .if1 .taken)
+    refused _ _ s (rw s at (e .refusal .ensures)) (c .before .answer .ensures) _ _ (c .if1 .taken)
 
 -- a call that is not refused is within the limits
 allowed : (c : tie.Else1)
@@ -33,7 +33,7 @@ allowed : (c : tie.Else1)
     InLimits (sizeOf (a .mask)) (a .a) (a .b) (length (a .words .now)) (length (a .out .now))
 allowed c =
     let e = c .before .before in
-    within _ _ _ _ _ (sym (fields-number _ _ _ _ _ (e .before .count .ensures) (e .refusal .ensures)) ∙ c .if1 .left)
+    within _ _ _ _ _ (sym (rw (e .before .count .ensures) at (e .refusal .ensures)) ∙ c .if1 .left)
 
 mul-write-fields : tie.Need-mul-write-fields
 mul-write-fields c = omega (arith, allowed c)
@@ -61,7 +61,7 @@ returns-2 c =
     let d = c .before .before .before .before .before in
     let e = d .before .before in
     let s = e .before .count .ensures in
-    carried-out _ _ s (fields-number _ _ _ _ _ s (e .refusal .ensures)) (d .before .answer .ensures) _ _ (d .if1 .left)
+    carried-out _ _ s (rw s at (e .refusal .ensures)) (d .before .answer .ensures) _ _ (d .if1 .left)
     (c .before .before .write-fields .ensures)
 
 pub pack-spec : {M : Type 1} → statement M

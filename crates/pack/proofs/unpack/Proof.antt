@@ -4,7 +4,7 @@ use native.Mathlib.Omega.{arith}
 use lib.ListN.{length}
 use Rattle.bits.proofs.Rank.{rank-le}
 use Rattle.pack.specs.Fields.{sizeOf}
-use Rattle.pack.proofs.FieldAnswers.{InLimits, unpack-within, unpack-number, both-within, refused, carried-out, cut-room, cut-filled}
+use Rattle.pack.proofs.FieldAnswers.{InLimits, unpack-within, both-within, refused, carried-out, cut-room, cut-filled}
 use borrow.Author.Needs.{needs}
 use Rattle.pack.proofs.unpack.Statement.{statement}
 use Rattle.pack.proofs.unpack.Tie as tie
@@ -25,7 +25,7 @@ returns : tie.Need-returns
 returns c =
     let e = c .before .before in
     let s = e .before .count .ensures in
-    refused _ _ s (unpack-number _ _ _ _ _ s (e .unpack-refusal .ensures)) (c .before .answer .ensures) _ _ (c .if1 .taken)
+    refused _ _ s (rw s at (e .unpack-refusal .ensures)) (c .before .answer .ensures) _ _ (c .if1 .taken)
 
 -- a call that is not refused is within the limits
 allowed : (c : tie.Else1)
@@ -33,7 +33,7 @@ allowed : (c : tie.Else1)
     InLimits (sizeOf (a .mask)) (a .a) (a .b) (length (a .out .now)) (length (a .packed .now))
 allowed c =
     let e = c .before .before in
-    unpack-within _ _ _ _ _ (sym (unpack-number _ _ _ _ _ (e .before .count .ensures) (e .unpack-refusal .ensures)) ∙ c .if1 .left) .0
+    unpack-within _ _ _ _ _ (sym (rw (e .before .count .ensures) at (e .unpack-refusal .ensures)) ∙ c .if1 .left) .0
 
 mul-read-fields : tie.Need-mul-read-fields
 mul-read-fields c = omega (arith, allowed c)
@@ -62,7 +62,7 @@ returns-2 c =
     let e = d .before .before in
     let s = e .before .count .ensures in
     let w = allowed d in
-    carried-out _ _ s (unpack-number _ _ _ _ _ s (e .unpack-refusal .ensures)) (d .before .answer .ensures) _ _ (d .if1 .left)
+    carried-out _ _ s (rw s at (e .unpack-refusal .ensures)) (d .before .answer .ensures) _ _ (d .if1 .left)
     (cut-filled _ _ _ (w .start) (w .end) _ _ (c .before .before .read-fields .ensures))
 
 pub unpack-spec : {M : Type 1} → statement M
