@@ -32,7 +32,7 @@
 
 /* The version of this header, and of the archive that it belongs to. */
 #define TB_VERSION_MAJOR 0
-#define TB_VERSION_MINOR 4
+#define TB_VERSION_MINOR 5
 #define TB_VERSION_PATCH 0
 
 #ifdef __cplusplus
@@ -266,6 +266,31 @@ TbPacked tb_pack(uint64_t mask, const uint64_t *words, size_t length, size_t a, 
  */
 TbPacked tb_unpack(uint64_t mask, const uint64_t *packed, size_t length, size_t a, size_t b,
                    uint64_t *out, size_t out_length);
+
+/*
+ * Bit planes. Eight words hold sixty-four bytes: byte n is byte n % 8 of word
+ * n / 8, byte 0 of a word being its lowest eight bits. A plane has one bit of
+ * each byte: bit n of plane p is bit p of byte n, so plane 0 has the lowest bits.
+ * Each call here undoes the other.
+ *
+ * Nothing is refused. The eight words that the pointer points to are only read.
+ */
+
+/* The answer of tb_to_planes and tb_from_planes. */
+typedef struct {
+    uint64_t words[8]; /* planes 0 to 7, or the words of bytes 0 to 63 */
+} TbPlanes;
+
+/*
+ * To planes: the planes of the bytes in `words`, plane p as word p of the answer.
+ */
+TbPlanes tb_to_planes(const uint64_t words[8]);
+
+/*
+ * From planes: the words of the bytes whose planes these are, planes[p] being
+ * plane p.
+ */
+TbPlanes tb_from_planes(const uint64_t planes[8]);
 
 /*
  * The register unit, at width 64. Its registers lie in a bank that the caller

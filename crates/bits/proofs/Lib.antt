@@ -1,4 +1,6 @@
 pub mod Word
 pub mod Rank
+pub mod UpTo
 pub mod Places
 pub mod Refusals
+pub mod Computed

@@ -15,6 +15,11 @@ unfoldable pub ofBits : ℕ → (ℕ → ℕ) → ℕ
 ofBits zero f = zero
 ofBits (suc w) f = ofBits w (λ i. f (suc i)) * 2 + f zero % 2
 
+-- f 0, f 1, .., f (n - 1)
+unfoldable pub upTo : ℕ → (ℕ → ℕ) → List ℕ
+upTo zero f = []
+upTo (suc n) f = upTo n f ++ (f n ∷ [])
+
 -- the number of ones of m in the places below p; rank m w is the count of a mask of width w
 unfoldable pub rank : ℕ → ℕ → ℕ
 rank m zero = zero

@@ -2,20 +2,21 @@
 use mathlib.Core.Path.{_≡_, refl, sym, _∙_, ap, ap₂}
 use mathlib.Core.Bool.{true, _&&_}
 use mathlib.Core.List.{[], _∷_}
-use Prim.Native.Nat.{ℕ, zero, suc, _+_, _*_, _/_, _%_, _^_, _<_, _≤_, _-_, min}
+use Prim.Native.Nat.{ℕ, _+_, _*_, _%_, _^_, _<_, _≤_, _-_, min}
 use native.Mathlib.Omega.{arith}
 use native.Mathlib.Nat.{mod-lt}
 use lib.Bits.{bitAnd, and-mod}
 use Rattle.bits.specs.Bit.{bit, rank, places, ofBits, pick, put}
+use Rattle.bits.proofs.Computed.{every}
 use Rattle.bits.proofs.Refusals.{both}
-use Rattle.bits.proofs.Word.{bit-zero, bit-and, bit-lt}
+use Rattle.bits.proofs.Word.{bit-zero, bit-and}
 use Rattle.bits.proofs.Places.{pick-marked-suc, put-marked-suc}
 use Rattle.gather.specs.Gather.{gatherOf, scatterOf}
 use Rattle.gather.specs.declared.Levels.{Levels}
 use Rattle.gather.specs.Parts.{inParts, levelsOf, countsOf, gapsOf, gatherParts, scatterParts, down, up}
-use Rattle.gather.proofs.Parts.{Small, everyPart, parts-ext, parts-and, parts-first, parts-second}
+use Rattle.gather.proofs.Parts.{everyPart, parts-ext, parts-and, parts-first, parts-second}
 use Rattle.gather.proofs.Counting.{lowerOf, lower-by, gaps-by, counts-bits}
-use Rattle.gather.proofs.Moving.{Shifts, every, downs, ups, downAll, upAll, inside, joinsAt, joins, splitsAt, splits, gather-level, scatter-level, up-lt}
+use Rattle.gather.proofs.Moving.{Shifts, downs, ups, downAll, upAll, inside, joinsAt, joins, splitsAt, splits, gather-level, scatter-level, up-lt}
 
 -- the moves of a level: the distance, and the factor that makes of it the places that move
 abbrev shifts1 : Shifts

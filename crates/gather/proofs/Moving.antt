@@ -1,19 +1,19 @@
 -- One level of gather and of scatter, over the size of the parts: what a list of moves does inside one part is a computed test, and all parts of a word
 -- move at once. Assumes nothing.
 use mathlib.Core.Path.{_≡_, refl, sym, _∙_, ap, ap₂, subst}
-use mathlib.Core.Bool.{Bool, true, false, _&&_}
+use mathlib.Core.Bool.{Bool, true, _&&_}
 use mathlib.Core.List.{List, [], _∷_}
-use Prim.Native.Nat.{ℕ, zero, suc, _+_, _-_, _*_, _/_, _%_, _^_, _<_, _≤_, min}
+use Prim.Native.Nat.{ℕ, zero, suc, _+_, _-_, _*_, _/_, _%_, _^_, _<_, _≤_}
 use native.Mathlib.Omega.{arith}
-use native.Mathlib.Decide.{decLt}
-use native.Mathlib.Nat.{mod-eq-of-lt, mul-le-mul-right, not-suc-le-zero, mul-mod-left, mod-lt}
+use native.Mathlib.Nat.{mod-eq-of-lt, mul-le-mul-right, mul-mod-left, mod-lt}
 use lib.Dec.{eqb, ltb}
 use borrow.Author.Tests.{eqb-true, ltb-true}
 use lib.Arith.{digits-lt}
-use lib.Bits.{bitAnd, bitOr, bitXor, and-le-l, and-le-r, and-mod, and-zero-r, and-block, or-lt, xor-lt}
+use lib.Bits.{bitAnd, bitXor, and-le-l, and-le-r, and-mod, and-zero-r, and-block, or-lt, xor-lt}
 use lib.Pow.{pow-add, pow-mono, pow-pos, shr-le, split, mod-mod-pow, field, high, low}
-use Rattle.bits.specs.Bit.{bit, rank}
+use Rattle.bits.specs.Bit.{rank}
 use Rattle.bits.proofs.Refusals.{both}
+use Rattle.bits.proofs.Computed.{every, every-at}
 use Rattle.bits.proofs.Word.{below-pow, bit-lt, bit-and, bit-xor, ext}
 use Rattle.bits.proofs.Rank.{rank-le}
 use Rattle.gather.specs.Gather.{gatherOf, scatterOf}
@@ -21,20 +21,6 @@ use Rattle.gather.specs.Parts.{inParts, gapsOf, gatherParts, scatterPart
 use Rattle.gather.proofs.AnyWidth.{gather-count, gather-lt}
 use Rattle.gather.proofs.Halves.{gather-halves, scatter-halves, scatter-count}
 use Rattle.gather.proofs.Parts.{Small, everyPart, paired, parts-ext, parts-mask, parts-every, parts-mul, parts-whole, parts-shr, parts-and, parts-or, parts-xor, parts-second, parts-pairs, parts-lt}
-
--- p holds of every number below n
-unfoldable pub every : ℕ → (ℕ → Bool) → Bool
-every zero p = true
-every (suc n) p = p n && every n p
-
-every-at : (n : ℕ) (p : ℕ → Bool) → every n p ≡ true → (i : ℕ) → i < n → p i ≡ true
-unfolding every
-every-at zero p e i l = absurd (not-suc-le-zero l)
-every-at (suc n) p e i l = by-cases (decLt i n) (both (p n) (every n p) e) (every-at n p)
-  where
-    by-cases : Dec (i < n) → (p n ≡ true) × (every n p ≡ true) → (every n p ≡ true → (i : ℕ) → i < n → p i ≡ true) → p i ≡ true
-    by-cases (yes h) b f = f (b .1) i h
-    by-cases (no h) b f = let q : i ≡ n = omega arith in rw q (b .0)
 
 -- A move is a distance, one of the powers of two in the gaps, and a factor that makes of it the places that move.
 

@@ -1,4 +1,4 @@
--- Arrays of six stages, filled from the front. Assumes nothing.
+-- Arrays filled from the front, most of them of six stages. Assumes nothing.
 use mathlib.Core.Path.{_≡_, refl, sym, _∙_, ap}
 use mathlib.Core.List.{List, [], _∷_, _++_, append-assoc, append-nil, map, reverse, reverse-cons}
 use Prim.Native.Nat.{ℕ, zero, suc, _+_, _-_, _<_, _≤_}
@@ -10,17 +10,24 @@ use lib.ListN.{length, getD, take, set, replicate, length-reverse, List·getD-ap
 use lib.Seq.{take-suc, take-length, take-all, set-at, getD-at, getD-take, length-take-le}
 use Rattle.network.specs.Calls.{six}
 
--- filled with the first i of the list cs, and a behind them
+-- an array of n words filled with the first i of the list cs, and a behind them
+abbrev pub filledTo : ℕ → ℕ → ℕ → List ℕ → List ℕ
+filledTo n a i cs = take i cs ++ replicate (n - i) a
+
+pub fill-more : (n a : ℕ) (cs : List ℕ) (i : ℕ) {out : List ℕ} {v : ℕ} → i < n → i < length cs → out ≡ filledTo n a i cs → v ≡ getD cs i 0
+    → set out i v ≡ filledTo n a (i + 1) cs
+fill-more n a cs i {out} {v} h l e f =
+    let m : n - i ≡ suc (n - suc i) = omega arith in
+    ap (λ (o : List ℕ). set o i v) (e ∙ ap (λ (k : ℕ). take i cs ++ replicate k a) m)
+    ∙ set-at (take i cs) a (replicate (n - suc i) a) v i (length-take-le i cs (omega arith))
+    ∙ rw (add-one i, take-suc cs i 0, ← f, append-assoc)
+
 abbrev pub filled : ℕ → ℕ → List ℕ → List ℕ
-filled a i cs = take i cs ++ replicate (6 - i) a
+filled a i cs = filledTo 6 a i cs
 
 pub fill-turn : (a : ℕ) (cs : List ℕ) (i : ℕ) {out : List ℕ} {v : ℕ} → i < 6 → i < length cs → out ≡ filled a i cs → v ≡ getD cs i 0
     → set out i v ≡ filled a (i + 1) cs
-fill-turn a cs i {out} {v} h l e f =
-    let n : 6 - i ≡ suc (6 - suc i) = omega arith in
-    ap (λ (o : List ℕ). set o i v) (e ∙ ap (λ (k : ℕ). take i cs ++ replicate k a) n)
-    ∙ set-at (take i cs) a (replicate (6 - suc i) a) v i (length-take-le i cs (omega arith))
-    ∙ rw (add-one i, take-suc cs i 0, ← f, append-assoc)
+fill-turn a cs i h l e f = fill-more 6 a cs i h l e f
 
 set-same : (a n i : ℕ) → set (replicate n a) i a ≡ replicate n a
 set-same a zero i = refl

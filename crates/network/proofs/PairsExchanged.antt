@@ -152,7 +152,7 @@ module _ (d c x : ℕ) where
 
 -- Spreading.
 
-spread-lt : (d c : ℕ) → spreadOf d c < 2 ^ 64
+pub spread-lt : (d c : ℕ) → spreadOf d c < 2 ^ 64
 unfolding spreadOf
 spread-lt d c = lower-lt d (λ p. bit c (switchOf d p))
 

@@ -1,26 +1,11 @@
 -- The rule of the constant table of distances and pair masks: one computed test over the whole table, read at each entry. Assumes nothing.
-use mathlib.Core.Path.{_≡_, refl, _∙_, ap}
+use mathlib.Core.Path.{_≡_, refl}
 use mathlib.Core.List.{List, [], _∷_}
-use Prim.Native.Nat.{ℕ, zero, suc, _+_, _-_, _^_, _<_}
-use native.Mathlib.Omega.{arith}
-use native.Mathlib.Nat.{not-suc-le-zero, zero-add}
+use Prim.Native.Nat.{ℕ, _-_, _^_, _<_}
 use lib.ListN.{getD}
-use Rattle.bits.specs.Bit.{ofBits}
+use Rattle.bits.specs.Bit.{ofBits, upTo}
+use Rattle.bits.proofs.Computed.{entries}
 use Rattle.network.specs.Word.{atLower, pairs}
-
--- f at n places from i up
-unfoldable pub tabulate : (ℕ → ℕ) → ℕ → ℕ → List ℕ
-tabulate f i zero = []
-tabulate f i (suc n) = f i ∷ tabulate f (suc i) n
-
-tabulated : (f : ℕ → ℕ) (i n k : ℕ) → k < n → getD (tabulate f i n) k 0 ≡ f (i + k)
-unfolding tabulate
-tabulated f i zero k h = absurd (not-suc-le-zero h)
-tabulated f i (suc n) zero h = let e : i ≡ i + 0 = omega arith in ap f e
-tabulated f i (suc n) (suc k) h = let e : suc i + k ≡ i + suc k = omega arith in tabulated f (suc i) n k (omega arith) ∙ ap f e
-
-pub entries : (f : ℕ → ℕ) {xs : List ℕ} (n : ℕ) → xs ≡ tabulate f 0 n → (k : ℕ) → k < n → getD xs k 0 ≡ f k
-entries f n e k h = ap (λ (t : List ℕ). getD t k 0) e ∙ tabulated f 0 n k h ∙ ap f (zero-add k)
 
 -- the code's tables
 abbrev pub distanceTable : List ℕ
@@ -36,12 +21,12 @@ pairTable =
     ∷ 0x5555555555555555
     ∷ []
 
-distances-are : distanceTable ≡ tabulate (λ k. 2 ^ (5 - k)) 0 6
-unfolding tabulate
+distances-are : distanceTable ≡ upTo 6 (λ k. 2 ^ (5 - k))
+unfolding upTo
 distances-are = refl
 
-pairs-are : pairTable ≡ tabulate (λ k. pairs (2 ^ (5 - k))) 0 6
-unfolding tabulate atLower ofBits
+pairs-are : pairTable ≡ upTo 6 (λ k. pairs (2 ^ (5 - k)))
+unfolding upTo atLower ofBits
 pairs-are = refl
 
 module _ (k : ℕ) (h : k < 6) where

@@ -12,7 +12,8 @@ use borrow.Author.Tests.{eq-eqb, ne-eqb, eqb-true, ltb-false, le-ltb, not-false}
 use Rattle.bits.specs.Refusal.{lowest, Rising, AnswersLowest}
 use Rattle.bits.proofs.Refusals.{answers-lowest, every-answer, lowest-more, none-applies, neither}
 use Rattle.pack.specs.declared.Packed.{Packed}
-use Rattle.pack.specs.Fields.{upTo, needed, cut, spareBits, scatteredAt, unpackInto}
+use Rattle.bits.specs.Bit.{upTo}
+use Rattle.pack.specs.Fields.{needed, cut, spareBits, scatteredAt, unpackInto}
 use Rattle.pack.specs.Calls.{fieldsConditions, fieldsRefusal, unpackConditions, unpackRefusal, fieldsAnswer, leftOf}
 
 -- the number of bits fits

@@ -6,16 +6,16 @@ use native.Mathlib.Omega.{arith}
 use native.Mathlib.Nat.{zero-mul, mod-lt, div-add-mod', div-lt-iff-lt-mul}
 use lib.ListN.{length, getD, drop, length-map, List·getD-append}
 use lib.Seq.{getD-take, getD-drop}
-use Rattle.bits.specs.Bit.{bit, marked}
+use Rattle.bits.specs.Bit.{bit, marked, upTo}
 use Rattle.bits.specs.Refusal.{AnswersLowest}
 use Rattle.bits.proofs.Word.{bit-mod-two, bit-ofBits}
 use Rattle.bits.proofs.Rank.{rank-le}
 use Rattle.bits.proofs.Places.{length-marked}
+use Rattle.bits.proofs.UpTo.{length-upTo, getD-upTo}
 use Rattle.gather.specs.Gather.{gatherOf}
 use Rattle.pack.specs.declared.Packed.{Packed}
-use Rattle.pack.specs.Fields.{upTo, sizeOf, needed, cut, fieldsOf, streamOf, wordAt, packInto, packedBit, spareBits, unpackInto}
+use Rattle.pack.specs.Fields.{sizeOf, needed, cut, fieldsOf, streamOf, wordAt, packInto, packedBit, spareBits, unpackInto}
 use Rattle.pack.specs.Calls.{fieldsConditions, fieldsRefusal, unpackConditions, unpackRefusal, packAnswer, packedOut, unpackAnswer, unpackedOut}
-use Rattle.pack.proofs.FilledLists.{length-upTo, getD-upTo}
 use Rattle.pack.proofs.SpareWords.{spare-bits}
 use Rattle.pack.proofs.Turns.{stream-word, stream-end, next-field}
 use Rattle.pack.proofs.FieldAnswers.{fields-lowest, answer-bits, answer-count, answer-count-le, length-cut}

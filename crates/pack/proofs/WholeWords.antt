@@ -5,15 +5,16 @@ use Prim.Native.Nat.{ℕ, suc, _+_, _*_, _^_, _<_, _≤_}
 use native.Mathlib.Omega.{arith}
 use native.Mathlib.Decide.{decLt}
 use lib.ListN.{length, getD, drop, set}
-use Rattle.bits.specs.Bit.{bit, rank, ofBits}
+use Rattle.bits.specs.Bit.{bit, rank, ofBits, upTo}
 use Rattle.bits.proofs.Word.{bit-lt, ext}
 use Rattle.bits.proofs.Rank.{rank-le, rank-between}
+use Rattle.bits.proofs.UpTo.{upTo-same}
 use Rattle.gather.specs.Gather.{gatherOf, scatterOf}
 use Rattle.gather.proofs.AnyWidth.{gather-lt, scatter-lt}
 use Rattle.gather.proofs.Theorems.{bit-gather, bit-scatter}
-use Rattle.pack.specs.Fields.{upTo, sizeOf, needed, streamOf, wordAt, packInto, scatteredAt}
+use Rattle.pack.specs.Fields.{sizeOf, needed, streamOf, wordAt, packInto, scatteredAt}
 use Rattle.pack.specs.Cursor.{Reads, Copies}
-use Rattle.pack.proofs.FilledLists.{upTo-same, fill-none, fill-next, fill-all}
+use Rattle.pack.proofs.FilledLists.{fill-none, fill-next, fill-all}
 use Rattle.pack.proofs.Reading.{bit-packed, word-bits, scatter-read}
 use Rattle.pack.proofs.Turns.{field-bits}
 

@@ -1,16 +1,11 @@
 -- Packed fields of paper 01, 'Strips' (a "strip" is a list of words here). Assumes nothing.
-use Prim.Native.Nat.{ℕ, zero, suc, _+_, _-_, _*_, _/_, _%_}
+use Prim.Native.Nat.{ℕ, _+_, _-_, _*_, _/_, _%_}
 use mathlib.Core.Bool.{cond}
-use mathlib.Core.List.{List, [], _∷_, _++_, map}
+use mathlib.Core.List.{List, _++_, map}
 use lib.Dec.{ltb}
 use lib.ListN.{length, getD, take, drop}
-use Rattle.bits.specs.Bit.{bit, ofBits, rank}
+use Rattle.bits.specs.Bit.{bit, ofBits, rank, upTo}
 use Rattle.gather.specs.Gather.{gatherOf, scatterOf}
-
--- f 0, f 1, .., f (n - 1)
-unfoldable pub upTo : ℕ → (ℕ → ℕ) → List ℕ
-upTo zero f = []
-upTo (suc n) f = upTo n f ++ (f n ∷ [])
 
 -- the words `old` with the first j replaced by f 0, .., f (j - 1)
 abbrev pub overwritten : ℕ → (ℕ → ℕ) → List ℕ → List ℕ

@@ -1,5 +1,5 @@
-// The exported C functions, declared in include/tigbayon.h: all calls of paper 01 ('Lines, masks, orders' to 'The register unit'), and those
-// of prepared networks. Each hands its arguments to one call.
+// The exported C functions, declared in include/tigbayon.h: all calls of paper 01 ('Lines, masks, orders' to 'The register unit'), those of
+// prepared networks, and the bit planes of paper 02. Each hands its arguments to one call.
 // No logic is here, and each promise is that call's. The host lends its register bank: it is copied out, and what the call
 // leaves is stored back.
 ghost use mathlib.Core.Path.{_≡_};
@@ -12,6 +12,7 @@ ghost use Rattle.routing.specs.Lists.{butterflyFits, butterflyAlone, inverseFit
 ghost use Rattle.unit.specs.Run.{ranAt, runOf};
 ghost use Rattle.unit.specs.Calls.{operated, operateOf, readOf, written, writeOf};
 ghost use Rattle.pack.specs.Calls.{packAnswer, packedOut, unpackAnswer, unpackedOut};
+ghost use Rattle.planes.specs.Planes.{planesOf, wordsOfPlanes};
 ghost use Rattle.permute.specs.Calls.{routeAnswer, AnswersFirst, oneAnswer, AnswersAlone};
 ghost use Rattle.gather.specs.Gather.{gatherOf, scatterOf, groupOf, answerOf};
 
@@ -139,6 +140,20 @@ pub extern "C" fn tb_unpack(
         × (now (out .exit) ≡ unpackedOut mask (now (packed .entry)) a b (now (out .entry))) ⌝ }
 {
     pack::unpack(mask, packed, a, b, out)
+}
+
+#[no_mangle]
+pub extern "C" fn tb_to_planes(words: &[u64; 8]) -> planes::Planes
+    ensures { λ r. ⌜ r ≡ record { words = planesOf (now (words .entry)) } ⌝ }
+{
+    planes::to_planes(*words)
+}
+
+#[no_mangle]
+pub extern "C" fn tb_from_planes(planes: &[u64; 8]) -> planes::Planes
+    ensures { λ r. ⌜ r ≡ record { words = wordsOfPlanes (now (planes .entry)) } ⌝ }
+{
+    planes::from_planes(*planes)
 }
 
 // One operation on a lent bank.

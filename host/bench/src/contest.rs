@@ -104,7 +104,7 @@ impl<I: 'static, O: Debug + PartialEq> Contest<I, O> {
 /// Makes a peer's call apart from the timing loop. The library's calls, across
 /// the C boundary, cannot be inlined into it, so peers must not be either.
 #[inline(never)]
-fn apart<I, O>(call: &impl Fn(&I) -> O, input: &I) -> O {
+pub fn apart<I, O>(call: &impl Fn(&I) -> O, input: &I) -> O {
     call(input)
 }
 

@@ -8,14 +8,16 @@ use crate::routing::permutation_by;
 use crate::table::{print_heading, print_line};
 use crate::timing::{inputs, Calls};
 use conformance::low_ones;
+use conformance::planes::Words;
 use conformance::programs::{bank, program, Form, FORMS};
-use conformance::samples::{random_permutation, Random};
+use conformance::samples::{random_eight, random_permutation, Random};
 use conformance::unit::lent;
 use std::hint::black_box;
 use tigbayon::{
-    tb_butterfly, tb_butterfly_prepared, tb_decode, tb_gather, tb_group, tb_inverse,
-    tb_inverse_prepared, tb_operate, tb_prepare_butterfly, tb_prepare_inverse, tb_read, tb_route,
-    tb_route_butterfly, tb_route_inverse, tb_run, tb_scatter, tb_write, TbBank,
+    tb_butterfly, tb_butterfly_prepared, tb_decode, tb_from_planes, tb_gather, tb_group,
+    tb_inverse, tb_inverse_prepared, tb_operate, tb_prepare_butterfly, tb_prepare_inverse, tb_read,
+    tb_route, tb_route_butterfly, tb_route_inverse, tb_run, tb_scatter, tb_to_planes, tb_write,
+    TbBank, TbPlanes,
 };
 
 /// Calls whose inputs have sizes of one sort.
@@ -123,6 +125,8 @@ pub const GROWTHS: [Growth; 5] = [
         sizes: &[1],
         each: CALL,
         calls: &[
+            ("to_planes", |_| converted(tb_to_planes)),
+            ("from_planes", |_| converted(tb_from_planes)),
             ("operate", |_| {
                 on_bank(1, program, |bank, list| {
                     tb_operate(bank, list[0], list[1], list[2], list[3])
@@ -233,6 +237,10 @@ fn by_network(network: Network) -> impl Fn(&mut Random, u32) -> Vec<u8> {
 fn packed(words: usize, packing: Packing, mask: Mask) -> Calls {
     let make = |random: &mut Random| packing.lists(random, mask, words);
     calls(words, make, move |lists| packing.on(lists))
+}
+
+fn converted(call: extern "C" fn(&Words) -> TbPlanes) -> Calls {
+    calls(1, random_eight, move |words| call(words))
 }
 
 fn random_bank(random: &mut Random) -> TbBank {

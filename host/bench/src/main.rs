@@ -19,6 +19,7 @@ mod growth;
 mod masks;
 mod networks;
 mod packing;
+mod planes;
 mod routing;
 mod table;
 mod timing;
@@ -34,7 +35,7 @@ const WIDTH: u32 = 64;
 /// A contest runs the call of its name.
 type Bench = (&'static str, fn(&str));
 
-const CONTESTS: [Bench; 15] = [
+const CONTESTS: [Bench; 17] = [
     ("butterfly", networks::butterfly),
     ("inverse", networks::inverse),
     ("prepare_butterfly", networks::prepare_butterfly),
@@ -50,6 +51,8 @@ const CONTESTS: [Bench; 15] = [
     ("route_inverse", routing::route_inverse),
     ("pack", packing::pack),
     ("unpack", packing::unpack),
+    ("to_planes", planes::to_planes),
+    ("from_planes", planes::from_planes),
 ];
 
 const BY_MASK: &str = "by mask";

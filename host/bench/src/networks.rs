@@ -17,7 +17,7 @@ const NARROW: [u32; 3] = [8, 16, 32];
 pub const STAGES: usize = 6;
 
 /// For distances 1, 2, 4, .., 32, the lower bit of every pair.
-const PAIRS: [u64; STAGES] = [
+pub const PAIRS: [u64; STAGES] = [
     0x5555_5555_5555_5555,
     0x3333_3333_3333_3333,
     0x0F0F_0F0F_0F0F_0F0F,

@@ -4,6 +4,7 @@ mod drawn;
 mod masks;
 mod networks;
 mod packing;
+mod planes;
 mod routing;
 mod unit;
 
@@ -11,7 +12,7 @@ use crate::command::Command;
 use crate::failure::Failure;
 
 /// All of them, in the order of the help.
-pub const COMMANDS: [&Command; 10] = [
+pub const COMMANDS: [&Command; 12] = [
     &masks::GATHER,
     &masks::SCATTER,
     &masks::GROUP,
@@ -21,6 +22,8 @@ pub const COMMANDS: [&Command; 10] = [
     &routing::ROUTE,
     &packing::PACK,
     &packing::UNPACK,
+    &planes::PLANES,
+    &planes::BYTES,
     &unit::RUN,
 ];
 

@@ -75,6 +75,39 @@ fn lists() {
 }
 
 #[test]
+fn eight_words() {
+    for (command, name) in [("planes", "WORDS.."), ("bytes", "PLANES..")] {
+        assert_unread(&[command], &format!("{name} is missing"));
+        for count in [0, 1, 7, 9, 16] {
+            let words = vec!["1"; count].join(",");
+            let expected = format!("{name} is {words:?}, expected eight words, not {count}");
+            assert_unread(&[command, &words], &expected);
+        }
+        let words = "0,0,0,0,0,0,0";
+        let more = format!("{name} is \"{words} 1 2\", expected eight words, not 9");
+        assert_unread(&[command, words, "1", "2"], &more);
+        let entry = format!("entry 7 of {name} is \"x\", expected a hexadecimal number");
+        assert_unread(&[command, words, "x"], &entry);
+        let entry = format!("entry 7 of {name} is \"10000000000000000\"");
+        assert_unread(&[command, words, "10000000000000000"], &entry);
+    }
+}
+
+#[test]
+fn one_plane() {
+    let planes = |options: &[&'static str]| [&["planes", "0,0,0,0,0,0,0,0"], options].concat();
+    for text in ["8", "64", "18446744073709551615"] {
+        let plane = format!("--plane is {text:?}, expected a plane, from 0 to 7");
+        assert_unread(&planes(&["--plane", text]), &plane);
+    }
+    assert_unread(&planes(&["--plane", "x"]), "--plane is \"x\"");
+    assert_unread(&planes(&["--plane"]), "--plane needs P");
+    let twice = ["--plane", "1", "--plane", "2"];
+    assert_unread(&planes(&twice), "--plane is given twice");
+    assert_unread(&["bytes", "--text"], "--text is no option of bytes");
+}
+
+#[test]
 fn registers() {
     let form = "--set is \"2\", expected R=WORD";
     assert_unread(&["run", "", "--set", "2"], form);

@@ -79,7 +79,8 @@ fn the_version() {
 
 #[test]
 fn all_commands_are_listed() {
-    let expected = "gather scatter group decode butterfly inverse route pack unpack run";
+    let expected =
+        "gather scatter group decode butterfly inverse route pack unpack planes bytes run";
     assert_eq!(names().join(" "), expected);
     let listed = expected.replace(' ', ", ");
     assert!(run(&["turn"]).error.contains(&listed));

@@ -7,9 +7,10 @@ use crate::call::{Call, BUTTERFLY, DECODE, GATHER, GROUP, INVERSE, SCATTER};
 use crate::call::{PREPARE_BUTTERFLY, PREPARE_INVERSE, ROUTE, ROUTE_BUTTERFLY, ROUTE_INVERSE};
 use crate::controls::Controls;
 use crate::packing::{PackingCall, PACK, UNPACK};
+use crate::planes::{turned_over, Conversion, FROM_PLANES, TO_PLANES};
 use crate::prepared::{Passage, THROUGH_BUTTERFLY, THROUGH_INVERSE};
 use crate::programs::bank;
-use crate::samples::{any_controls, any_swaps, any_word, Random};
+use crate::samples::{any_controls, any_eight, any_swaps, any_word, Random};
 use crate::unit::{operate, read, run, write};
 use crate::WIDTHS;
 use model::gather::Gathered;
@@ -31,7 +32,7 @@ struct Target {
     check: fn(&mut Random) -> u8,
 }
 
-const TARGETS: [Target; 19] = [
+const TARGETS: [Target; 21] = [
     target("gather", &[0, 1, 2], |random| masked(random, GATHER)),
     target("scatter", &[0, 1, 2], |random| masked(random, SCATTER)),
     target("group", &[0, 1, 2], |random| masked(random, GROUP)),
@@ -65,6 +66,12 @@ const TARGETS: [Target; 19] = [
     target("pack", &[0, 9, 10], |random| packed(random, PACK, as_it_is)),
     target("unpack", &[0, 9, 10, 11], |random| {
         packed(random, UNPACK, end)
+    }),
+    target("to_planes", &[0], |random| {
+        converted(random, TO_PLANES, FROM_PLANES)
+    }),
+    target("from_planes", &[0], |random| {
+        converted(random, FROM_PLANES, TO_PLANES)
     }),
     target("operate", &[0, 7, 8], |random| {
         operate(&mut bank(random), operation(random)).refusal
@@ -142,6 +149,21 @@ fn packed(random: &mut Random, call: PackingCall, end: End) -> u8 {
     let (mut first, mut second) = call.lists(random, mask, (a, b), (length, other));
     end(random, mask, &mut first, (a, b));
     call.check(mask, &first, a, b, &mut second).refusal
+}
+
+/// There and back; a bit turned over on the way is one bit of what comes back.
+/// Nothing is refused.
+fn converted(random: &mut Random, there: Conversion, back: Conversion) -> u8 {
+    let words = any_eight(random);
+    let mut converted = there.check(words);
+    let damaged = random.below(2);
+    if damaged == 1 {
+        let [word, bit] = [8, 64].map(|bound| random.below(bound));
+        converted = turned_over(converted, word as usize, bit);
+    }
+    let differ = zip(back.check(converted), words).map(|(one, other)| one ^ other);
+    assert_eq!(differ.map(u64::count_ones).sum::<u32>(), damaged);
+    NONE
 }
 
 /// For each call, how often it answered each refusal number.

@@ -7,6 +7,7 @@ pub mod fuzz;
 pub mod guards;
 pub mod packing;
 pub mod permutations;
+pub mod planes;
 pub mod prepared;
 pub mod programs;
 pub mod refusals;

@@ -5,6 +5,7 @@ use crate::controls::{stages, Controls};
 use crate::low_ones;
 use crate::permutations::{identity, product, realised, rotation, swap, FIXED};
 use model::network;
+use model::planes::Words;
 use model::prepared::Swaps;
 use model::refusal::Answer;
 
@@ -113,6 +114,27 @@ fn swaps(random: &mut Random, shape: Shape, width: u32) -> Swaps {
 pub fn any_swaps(random: &mut Random) -> Swaps {
     let shape = random.pick(&SHAPES);
     swaps(random, shape, 64)
+}
+
+/// Eight random words.
+pub fn random_eight(random: &mut Random) -> Words {
+    [(); 8].map(|()| random.word())
+}
+
+/// Eight words of one shape or of any, one repeated, one among zeros, or a single
+/// bit.
+pub fn any_eight(random: &mut Random) -> Words {
+    let shape = random.pick(&SHAPES);
+    let one = word(random, shape, 64);
+    let mut alone = [0; 8];
+    match random.below(5) {
+        0 => return [(); 8].map(|()| word(random, shape, 64)),
+        1 => return [(); 8].map(|()| any_word(random, 64)),
+        2 => return [one; 8],
+        3 => alone[random.below(8) as usize] = one,
+        _ => alone[random.below(8) as usize] = 1 << random.below(64),
+    }
+    alone
 }
 
 /// A kind of permutation, made for a width.

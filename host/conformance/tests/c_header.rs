@@ -2,11 +2,11 @@
 //! Rust declarations do, and its calls link and answer.
 
 use std::fs;
-use std::mem::{offset_of, size_of};
+use std::mem::{align_of, offset_of, size_of};
 use std::path::{Path, PathBuf};
 use std::process::Command;
 use tigbayon::{Refusal, TbBank, TbCarried, TbControls1, TbControls2};
-use tigbayon::{TbCycles, TbGathered, TbPacked, TbPrepared, TbRegister, TbRun};
+use tigbayon::{TbCycles, TbGathered, TbPacked, TbPlanes, TbPrepared, TbRegister, TbRun};
 
 const CRATE: &str = env!("CARGO_MANIFEST_DIR");
 const README: &str = include_str!("../../../README.md");
@@ -40,6 +40,14 @@ const PACKING: &str = "\
     pack 10 0 0:\n\
     unpack 0 0 0: 7 0 0 0 0 0 0 7\n\
     words: 1 2 3 4 5 9a6\n";
+
+/// What it prints of bit planes.
+const PLANES: &str = "\
+    to_planes: 401 400 0 0 0 0 8000000000000000 1\n\
+    from_planes: 81 30000 0 0 0 0 0 4000000000000000\n\
+    from_planes: 706050403020100 f0e0d0c0b0a0908 1716151413121110 1f1e1d1c1b1a1918 \
+    2726252423222120 2f2e2d2c2b2a2928 3736353433323130 3f3e3d3c3b3a3938\n\
+    words: 81 30000 0 0 0 0 0 4000000000000000\n";
 
 /// What it prints of the register unit.
 const UNIT: &str = "\
@@ -99,14 +107,15 @@ fn printed(command: &mut Command) -> String {
     String::from_utf8(output.stdout).expect("ASCII")
 }
 
-/// Each struct's size and the offsets of its fields.
+/// Each struct's size and alignment, and the offsets of its fields.
 fn layouts() -> String {
     macro_rules! layout {
         ($name:ident, $($field:ident),+) => {
             format!(
-                "{} {}: {}\n",
+                "{} {} {}: {}\n",
                 stringify!($name),
                 size_of::<$name>(),
+                align_of::<$name>(),
                 [$(offset_of!($name, $field).to_string()),+].join(" ")
             )
         };
@@ -117,6 +126,7 @@ fn layouts() -> String {
         + &layout!(TbControls1, refusal, stages)
         + &layout!(TbControls2, refusal, butterfly, inverse)
         + &layout!(TbPacked, refusal, count, bits)
+        + &layout!(TbPlanes, words)
         + &layout!(TbBank, general, b, ib)
         + &layout!(TbCycles, refusal, cycles)
         + &layout!(TbRun, refusal, end, ran, cycles)
@@ -155,7 +165,7 @@ fn expected() -> String {
         permutation 0 4 2 3 1 5 6 7\n";
     let layouts = layouts();
     let numbers = numbers.concat();
-    format!("{layouts}numbers 0{numbers}\n{answers}{PREPARED}{PACKING}{UNIT}")
+    format!("{layouts}numbers 0{numbers}\n{answers}{PREPARED}{PACKING}{PLANES}{UNIT}")
 }
 
 fn interface(begin: &[&str]) -> String {

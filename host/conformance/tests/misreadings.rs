@@ -1,12 +1,13 @@
 //! The misreadings that paper 01 warns of ("False splices"), and those of requests
-//! 01 and 02 of paper 02, the count of marked bits and the spare bits of packed
-//! words: the library has none of them, and each would be seen. Group by a shift of
-//! 64 is among the laws and is row 13.
+//! 01 to 03 of paper 02, the count of marked bits, the spare bits of packed words
+//! and bit planes: the library has none of them, and each would be seen. Group by a
+//! shift of 64 is among the laws and is row 13.
 
 use conformance::call::{decode, BUTTERFLY, GATHER, INVERSE, MASK_CALLS, NETWORKS, SCATTER};
 use conformance::controls::{pass_all, reversed, stages, Controls};
 use conformance::packing::{clean_end, PACK, PACKING_CALLS, UNPACK};
-use conformance::samples::for_each;
+use conformance::planes::{Words, FROM_PLANES, TO_PLANES};
+use conformance::samples::{any_eight, for_each, Random};
 use conformance::{low_ones, WIDTHS};
 use model::refusal::Answer;
 
@@ -240,4 +241,111 @@ fn pack_does_not_ask_for_spare_bits() {
         PACK.assert_number(0, mask, &[u64::MAX; 2], (0, 1), &mut out);
         assert_eq!(out, [mask, u64::MAX]);
     }
+}
+
+/// The word, and the bit of it, where bit p of byte n stands.
+type Place = fn(usize, usize) -> (usize, usize);
+
+/// "byte 0 in the low end of word 0"
+const PLACE: Place = |n, p| (n / 8, n % 8 * 8 + p);
+
+/// Every bit of every byte with its place, by this reading.
+fn bits(place: Place) -> impl Iterator<Item = (usize, usize, (usize, usize))> {
+    let bits = (0..64).flat_map(|n| (0..8).map(move |p| (n, p)));
+    bits.map(move |(n, p)| (n, p, place(n, p)))
+}
+
+/// The planes by this reading.
+fn planes_by(place: Place, words: Words) -> Words {
+    let mut planes = [0; 8];
+    for (n, p, (word, bit)) in bits(place) {
+        planes[p] |= (words[word] >> bit & 1) << n;
+    }
+    planes
+}
+
+/// The way back by it.
+fn words_by(place: Place, planes: Words) -> Words {
+    let mut words = [0; 8];
+    for (n, p, (word, bit)) in bits(place) {
+        words[word] |= (planes[p] >> n & 1) << bit;
+    }
+    words
+}
+
+/// Byte 0 is 0x81, byte 10 is 0x03.
+const BYTES_0_AND_10: Words = [0x81, 0x03_0000, 0, 0, 0, 0, 0, 0];
+
+/// Their planes.
+const PLANES_OF_THEM: Words = [0x401, 0x400, 0, 0, 0, 0, 0, 0x1];
+
+/// Checks that both calls go by the one reading, and would be seen to go by the
+/// other.
+fn assert_not_read_so(misread: Place) {
+    let mut random = Random::default();
+    for words in [BYTES_0_AND_10, PLANES_OF_THEM, any_eight(&mut random)] {
+        assert_eq!(TO_PLANES.check(words), planes_by(PLACE, words));
+        assert_eq!(FROM_PLANES.check(words), words_by(PLACE, words));
+    }
+    assert_eq!(planes_by(PLACE, BYTES_0_AND_10), PLANES_OF_THEM);
+    assert_ne!(planes_by(misread, BYTES_0_AND_10), PLANES_OF_THEM);
+    assert_ne!(words_by(misread, PLANES_OF_THEM), BYTES_0_AND_10);
+}
+
+/// Byte n is byte n % 8 of word n / 8, and not byte n / 8 of word n % 8.
+#[test]
+fn words_and_bytes_are_not_exchanged() {
+    assert_not_read_so(|n, p| (n % 8, n / 8 * 8 + p));
+}
+
+/// "Bit p of byte n", and not bit n % 8 of byte p of word n / 8.
+#[test]
+fn a_plane_is_not_of_whole_bytes() {
+    assert_not_read_so(|n, p| (n / 8, p * 8 + n % 8));
+}
+
+/// "byte 0 in the low end", and not in the high end of its word.
+#[test]
+fn bytes_are_not_counted_from_the_high_end() {
+    assert_not_read_so(|n, p| PLACE(n ^ 7, p));
+}
+
+/// Document 000 counts the bits of a byte from the high end: its bit0 is plane 7,
+/// and not plane 0.
+#[test]
+fn planes_are_not_in_reversed_order() {
+    assert_not_read_so(|n, p| PLACE(n, 7 - p));
+}
+
+/// It counts those of a register so, too.
+#[test]
+fn the_bits_of_a_plane_are_not_counted_from_the_high_end() {
+    assert_not_read_so(|n, p| PLACE(63 - n, p));
+    assert_not_read_so(|n, p| PLACE(63 - n, 7 - p));
+}
+
+/// "The first source's halves, in order, fill the low half of the result": filling
+/// the high half, in one of the three stages or in all.
+#[test]
+fn halves_of_the_result_are_not_exchanged() {
+    assert_not_read_so(|n, p| PLACE(n ^ 8, p));
+    assert_not_read_so(|n, p| PLACE(n ^ 16, p));
+    assert_not_read_so(|n, p| PLACE(n ^ 32, p));
+    assert_not_read_so(|n, p| PLACE(n ^ 56, p));
+}
+
+/// "which half of every field it keeps": the other one, in one of the three stages.
+#[test]
+fn halves_of_a_field_are_not_exchanged() {
+    assert_not_read_so(|n, p| PLACE(n, p ^ 4));
+    assert_not_read_so(|n, p| PLACE(n, p ^ 2));
+    assert_not_read_so(|n, p| PLACE(n, p ^ 1));
+}
+
+/// The same steps again do not lead back.
+#[test]
+fn the_way_back_is_not_the_way_there() {
+    assert_eq!(FROM_PLANES.check(PLANES_OF_THEM), BYTES_0_AND_10);
+    assert_ne!(TO_PLANES.check(PLANES_OF_THEM), BYTES_0_AND_10);
+    assert_ne!(FROM_PLANES.check(BYTES_0_AND_10), PLANES_OF_THEM);
 }

@@ -5,8 +5,9 @@ use conformance::arbitrary::{controls, cut, list, operation, permutation};
 use conformance::arbitrary::{register, widths, word};
 use conformance::packing::{clean_end, LONGEST};
 use conformance::permutations::{one_loop, FIXED};
+use conformance::planes::Words;
 use conformance::programs::{bank, program};
-use conformance::samples::{any_swaps, random_permutation, random_words, Random};
+use conformance::samples::{any_eight, any_swaps, random_permutation, random_words, Random};
 use conformance::stack::bytes_used;
 use conformance::unit::lent;
 use conformance::WIDTHS;
@@ -14,10 +15,10 @@ use model::routing::valid_stage;
 use std::hint::black_box;
 use std::thread;
 use tigbayon::{
-    tb_butterfly, tb_butterfly_prepared, tb_decode, tb_gather, tb_group, tb_inverse,
-    tb_inverse_prepared, tb_operate, tb_pack, tb_prepare_butterfly, tb_prepare_inverse, tb_read,
-    tb_route, tb_route_butterfly, tb_route_inverse, tb_run, tb_scatter, tb_unpack, tb_write,
-    TbCarried, TbGathered, TbPacked, TbPrepared,
+    tb_butterfly, tb_butterfly_prepared, tb_decode, tb_from_planes, tb_gather, tb_group,
+    tb_inverse, tb_inverse_prepared, tb_operate, tb_pack, tb_prepare_butterfly, tb_prepare_inverse,
+    tb_read, tb_route, tb_route_butterfly, tb_route_inverse, tb_run, tb_scatter, tb_to_planes,
+    tb_unpack, tb_write, TbCarried, TbGathered, TbPacked, TbPlanes, TbPrepared,
 };
 
 /// No call may use as many bytes.
@@ -46,7 +47,7 @@ impl Gauge {
 /// Measures a call once on each sort of input.
 type Measure = fn(&mut Gauge);
 
-const CALLS: [(&str, Measure); 20] = [
+const CALLS: [(&str, Measure); 22] = [
     ("(none)", |gauge| gauge.measure(|| ())),
     ("tb_gather", |gauge| masked(gauge, tb_gather)),
     ("tb_scatter", |gauge| masked(gauge, tb_scatter)),
@@ -77,6 +78,8 @@ const CALLS: [(&str, Measure); 20] = [
     ("tb_route_inverse", |gauge| routed(gauge, tb_route_inverse)),
     ("tb_pack", |gauge| packed(gauge, tb_pack)),
     ("tb_unpack", |gauge| packed(gauge, tb_unpack)),
+    ("tb_to_planes", |gauge| converted(gauge, tb_to_planes)),
+    ("tb_from_planes", |gauge| converted(gauge, tb_from_planes)),
     ("tb_operate", |gauge| {
         let [kind, r1, r2, r3] = operation(&mut gauge.random);
         let mut bank = lent(&bank(&mut gauge.random));
@@ -151,6 +154,11 @@ fn packed(gauge: &mut Gauge, call: impl Fn(u64, &[u64], usize, usize, &mut [u64]
             gauge.measure(|| call(mask, first, a, b, &mut second));
         }
     }
+}
+
+fn converted(gauge: &mut Gauge, call: extern "C" fn(&Words) -> TbPlanes) {
+    let words = any_eight(&mut gauge.random);
+    gauge.measure(|| call(&words));
 }
 
 /// Measured on a thread, so that the stack is a fresh one.

@@ -13,6 +13,7 @@ pub mod gather;
 pub mod network;
 pub mod packing;
 pub mod permutation;
+pub mod planes;
 pub mod prepared;
 pub mod refusal;
 pub mod routing;

@@ -71,6 +71,14 @@ pub struct TbPacked {
     pub bits: u64,
 }
 
+/// The answer of both calls on bit planes.
+#[repr(C)]
+#[derive(Clone, Copy, Debug, PartialEq, Eq)]
+pub struct TbPlanes {
+    /// The planes, or the words of bytes.
+    pub words: [u64; 8],
+}
+
 /// The answer of one operation.
 #[repr(C)]
 #[derive(Clone, Copy, Debug, PartialEq, Eq)]
@@ -205,6 +213,10 @@ unsafe extern "C" {
     pub safe fn tb_inverse_prepared(swaps: &[u64; 6], word: u64) -> u64;
     /// See [`crate::decode()`].
     pub safe fn tb_decode(width: u32, mask: u64) -> TbControls2;
+    /// See [`crate::to_planes()`].
+    pub safe fn tb_to_planes(words: &[u64; 8]) -> TbPlanes;
+    /// See [`crate::from_planes()`].
+    pub safe fn tb_from_planes(planes: &[u64; 8]) -> TbPlanes;
     /// See [`crate::Bank::operate()`].
     pub safe fn tb_operate(bank: &mut TbBank, kind: u8, r1: u8, r2: u8, r3: u8) -> TbCycles;
     /// See [`crate::Bank::read()`].

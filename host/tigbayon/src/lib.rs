@@ -6,14 +6,17 @@
 //! each bit below w once: entry p is the bit that place p takes. A
 //! [`PreparedButterfly`] or [`PreparedInverse`] is a network prepared once for
 //! many words. Packing goes from one list of words of width 64 into another, each
-//! of at most 2,048. A [`Bank`] holds the registers of a unit that performs lists
-//! of operations of width 64. Each function here is answered for every input: with
-//! its result, or with the lowest [`Refusal`] that applies.
+//! of at most 2,048. Sixty-four bytes, in eight words, go to eight bit planes by
+//! [`to_planes`], and back by [`from_planes`]. A [`Bank`] holds the registers of a
+//! unit that performs lists of operations of width 64. Each function here is
+//! answered for every input: with its result, or with the lowest [`Refusal`] that
+//! applies.
 
 mod ffi;
 mod gather;
 mod network;
 mod packing;
+mod planes;
 mod prepared;
 mod refusal;
 mod routing;
@@ -21,15 +24,16 @@ mod unit;
 
 #[doc(hidden)]
 pub use ffi::{
-    tb_butterfly, tb_butterfly_prepared, tb_decode, tb_gather, tb_group, tb_inverse,
-    tb_inverse_prepared, tb_operate, tb_pack, tb_prepare_butterfly, tb_prepare_inverse, tb_read,
-    tb_route, tb_route_butterfly, tb_route_inverse, tb_run, tb_scatter, tb_unpack, tb_write,
-    TbBank, TbCarried, TbControls1, TbControls2, TbCycles, TbGathered, TbPacked, TbPrepared,
-    TbRegister, TbRun,
+    tb_butterfly, tb_butterfly_prepared, tb_decode, tb_from_planes, tb_gather, tb_group,
+    tb_inverse, tb_inverse_prepared, tb_operate, tb_pack, tb_prepare_butterfly, tb_prepare_inverse,
+    tb_read, tb_route, tb_route_butterfly, tb_route_inverse, tb_run, tb_scatter, tb_to_planes,
+    tb_unpack, tb_write, TbBank, TbCarried, TbControls1, TbControls2, TbCycles, TbGathered,
+    TbPacked, TbPlanes, TbPrepared, TbRegister, TbRun,
 };
 pub use gather::{gather, group, scatter, Gathered};
 pub use network::{butterfly, decode, inverse, Controls, Decoded};
 pub use packing::{pack, unpack, Packed};
+pub use planes::{from_planes, to_planes};
 pub use prepared::{PreparedButterfly, PreparedInverse};
 pub use refusal::Refusal;
 pub use routing::{route, route_butterfly, route_inverse, Routed};

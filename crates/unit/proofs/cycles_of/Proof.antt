@@ -2,14 +2,15 @@
 use mathlib.Core.Path.{_≡_, refl, sym}
 use Prim.Native.Nat.{_*_, _/_, _%_, _^_}
 use lib.ListN.{List·getD-eq-default}
-use Rattle.network.proofs.Table.{tabulate, entries}
+use Rattle.bits.specs.Bit.{upTo}
+use Rattle.bits.proofs.Computed.{entries}
 use Rattle.unit.specs.Operation.{figures, cyclesOf}
 use borrow.Author.Needs.{needs}
 use Rattle.unit.proofs.cycles_of.Statement.{statement}
 use Rattle.unit.proofs.cycles_of.Tie as tie
 
-digits-are : figures ≡ tabulate (λ k. 0x32233111110 / 2 ^ (4 * k) % 16) 0 11
-unfolding tabulate
+digits-are : figures ≡ upTo 11 (λ k. 0x32233111110 / 2 ^ (4 * k) % 16)
+unfolding upTo
 digits-are = refl
 
 returns : tie.Need-returns

@@ -5,29 +5,32 @@
 #include <stddef.h>
 #include <stdio.h>
 
-#define SIZE(type) (unsigned)sizeof(type)
+/* Size and alignment. */
+#define LAYOUT(type) (unsigned)sizeof(type), (unsigned)__alignof__(type)
 #define AT(type, field) (unsigned)offsetof(type, field)
 
 static void print_layouts(void)
 {
-    printf("TbGathered %u: %u %u %u\n", SIZE(TbGathered), AT(TbGathered, refusal),
+    printf("TbGathered %u %u: %u %u %u\n", LAYOUT(TbGathered), AT(TbGathered, refusal),
            AT(TbGathered, count), AT(TbGathered, word));
-    printf("TbCarried %u: %u %u\n", SIZE(TbCarried), AT(TbCarried, refusal),
+    printf("TbCarried %u %u: %u %u\n", LAYOUT(TbCarried), AT(TbCarried, refusal),
            AT(TbCarried, word));
-    printf("TbPrepared %u: %u %u\n", SIZE(TbPrepared), AT(TbPrepared, refusal),
+    printf("TbPrepared %u %u: %u %u\n", LAYOUT(TbPrepared), AT(TbPrepared, refusal),
            AT(TbPrepared, swaps));
-    printf("TbControls1 %u: %u %u\n", SIZE(TbControls1), AT(TbControls1, refusal),
+    printf("TbControls1 %u %u: %u %u\n", LAYOUT(TbControls1), AT(TbControls1, refusal),
            AT(TbControls1, stages));
-    printf("TbControls2 %u: %u %u %u\n", SIZE(TbControls2), AT(TbControls2, refusal),
+    printf("TbControls2 %u %u: %u %u %u\n", LAYOUT(TbControls2), AT(TbControls2, refusal),
            AT(TbControls2, butterfly), AT(TbControls2, inverse));
-    printf("TbPacked %u: %u %u %u\n", SIZE(TbPacked), AT(TbPacked, refusal),
+    printf("TbPacked %u %u: %u %u %u\n", LAYOUT(TbPacked), AT(TbPacked, refusal),
            AT(TbPacked, count), AT(TbPacked, bits));
-    printf("TbBank %u: %u %u %u\n", SIZE(TbBank), AT(TbBank, general), AT(TbBank, b),
+    printf("TbPlanes %u %u: %u\n", LAYOUT(TbPlanes), AT(TbPlanes, words));
+    printf("TbBank %u %u: %u %u %u\n", LAYOUT(TbBank), AT(TbBank, general), AT(TbBank, b),
            AT(TbBank, ib));
-    printf("TbCycles %u: %u %u\n", SIZE(TbCycles), AT(TbCycles, refusal), AT(TbCycles, cycles));
-    printf("TbRun %u: %u %u %u %u\n", SIZE(TbRun), AT(TbRun, refusal), AT(TbRun, end),
+    printf("TbCycles %u %u: %u %u\n", LAYOUT(TbCycles), AT(TbCycles, refusal),
+           AT(TbCycles, cycles));
+    printf("TbRun %u %u: %u %u %u %u\n", LAYOUT(TbRun), AT(TbRun, refusal), AT(TbRun, end),
            AT(TbRun, ran), AT(TbRun, cycles));
-    printf("TbRegister %u: %u %u\n", SIZE(TbRegister), AT(TbRegister, refusal),
+    printf("TbRegister %u %u: %u %u\n", LAYOUT(TbRegister), AT(TbRegister, refusal),
            AT(TbRegister, value));
 }
 
@@ -165,6 +168,26 @@ static void print_packing(void)
     print_words(words, 6);
 }
 
+static void print_planes(void)
+{
+    const uint64_t counting[8] = {0xAAAAAAAAAAAAAAAA, 0xCCCCCCCCCCCCCCCC, 0xF0F0F0F0F0F0F0F0,
+                                  0xFF00FF00FF00FF00, 0xFFFF0000FFFF0000, 0xFFFFFFFF00000000,
+                                  0, 0};
+    uint64_t words[8] = {0x81, 0x030000, 0, 0, 0, 0, 0, 0x4000000000000000};
+    TbPlanes answer = tb_to_planes(words);
+
+    printf("to_planes:");
+    print_words(answer.words, 8);
+    answer = tb_from_planes(answer.words);
+    printf("from_planes:");
+    print_words(answer.words, 8);
+    answer = tb_from_planes(counting);
+    printf("from_planes:");
+    print_words(answer.words, 8);
+    printf("words:");
+    print_words(words, 8);
+}
+
 static void print_run(TbRun answer, const TbBank *bank)
 {
     printf("run %u %u %" PRIu32 " %" PRIu32 ": %" PRIx64 "\n", (unsigned)answer.refusal,
@@ -243,6 +266,7 @@ int main(void)
     print_routed();
     print_prepared(decoded);
     print_packing();
+    print_planes();
     print_unit();
     return 0;
 }
