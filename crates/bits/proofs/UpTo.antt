@@ -1,6 +1,6 @@
--- Laws of the list f 0, .., f (n - 1). Assumes nothing.
+-- Laws of the list f 0, .., f (n - 1), and of a function over a list. Assumes nothing.
 use mathlib.Core.Path.{_≡_, refl, _∙_, ap₂}
-use mathlib.Core.List.{List, [], _∷_, _++_}
+use mathlib.Core.List.{List, [], _∷_, _++_, map}
 use Prim.Native.Nat.{ℕ, zero, suc, _<_}
 use native.Mathlib.Omega.{arith}
 use native.Mathlib.Decide.{decLt}
@@ -29,3 +29,8 @@ unfolding upTo
 upTo-same zero f g e = refl
 upTo-same (suc n) f g e =
     ap₂ (λ (l : List ℕ) (x : ℕ). l ++ (x ∷ [])) (upTo-same n f g (λ i h. e i (omega arith))) (e n (omega arith))
+
+pub map-at : (f : ℕ → ℕ) (xs : List ℕ) (i : ℕ) → i < length xs → getD (map f xs) i 0 ≡ f (getD xs i 0)
+map-at f [] i h = absurd (not-suc-le-zero h)
+map-at f (x ∷ xs) zero h = refl
+map-at f (x ∷ xs) (suc i) h = map-at f xs i (omega arith)

@@ -13,6 +13,7 @@ use lib.Seq.{getD-append-add, length-take-le, getD-take}
 use borrow.Author.Tests.{lt-ltb, le-ltb}
 use Rattle.bits.specs.Refusal.{logOf, accepted}
 use Rattle.bits.proofs.Refusals.{log-width, log-le}
+use Rattle.bits.proofs.UpTo.{map-at}
 use Rattle.gather.specs.declared.Gathered.{Gathered}
 use Rattle.gather.specs.Gather.{gatherOf, scatterOf, refusalOf, answerOf}
 use Rattle.gather.proofs.MaskAnswers.{within, carried-out}
@@ -24,7 +25,7 @@ use Rattle.network.specs.declared.Decoded.{Decoded}
 use Rattle.network.specs.Word.{exchangesOf, preparedOf, distances, travelOf}
 use Rattle.network.specs.Calls.{Uses, usedBits, controlsFit, networkRefusal, networkAnswer, prepareAnswer, six, controls, decodeAnswer}
 use Rattle.network.proofs.Travel.{length-falling, length-distances}
-use Rattle.network.proofs.Filling.{map-at, reverse-at}
+use Rattle.network.proofs.Filling.{reverse-at}
 use Rattle.network.proofs.MaskRouting.{decoded-stage-lt, length-decode, travel-of-lt, undoes, mask-routing-scatter, mask-routing-gather}
 use Rattle.network.proofs.Six.{travel-own, exchanges, used-only, six-below, six-same}
 use Rattle.network.proofs.NetworkAnswers.{each-fit, fit-each, network-refusal-by, network-within, network-is, decode-refusal-by}

@@ -1,6 +1,6 @@
 -- Arrays filled from the front, most of them of six stages. Assumes nothing.
 use mathlib.Core.Path.{_≡_, refl, sym, _∙_, ap}
-use mathlib.Core.List.{List, [], _∷_, _++_, append-assoc, append-nil, map, reverse, reverse-cons}
+use mathlib.Core.List.{List, [], _∷_, _++_, append-assoc, append-nil, reverse, reverse-cons}
 use Prim.Native.Nat.{ℕ, zero, suc, _+_, _-_, _<_, _≤_}
 use native.Mathlib.Omega.{arith}
 use native.Mathlib.Decide.{decLt}
@@ -47,11 +47,6 @@ fill-end cs i e = rw (e, take-length)
 
 pub fill-whole : (a : ℕ) (cs : List ℕ) (i : ℕ) → i ≡ 6 → length cs ≡ 6 → filled a i cs ≡ cs
 fill-whole a cs i e l = rw (e, take-all 6 cs (omega arith)) (append-nil cs)
-
-pub map-at : (f : ℕ → ℕ) (xs : List ℕ) (i : ℕ) → i < length xs → getD (map f xs) i 0 ≡ f (getD xs i 0)
-map-at f [] i h = absurd (not-suc-le-zero h)
-map-at f (x ∷ xs) zero h = refl
-map-at f (x ∷ xs) (suc i) h = map-at f xs i (omega arith)
 
 pub reverse-at : (xs : List ℕ) (i : ℕ) → i < length xs → getD (reverse xs) i 0 ≡ getD xs (length xs - 1 - i) 0
 reverse-at [] i h = absurd (not-suc-le-zero h)

@@ -12,12 +12,12 @@ use lib.Pow.{pow-pos, pow-mono, pow-add, pow-lt, shl-exact, ones-lt}
 use Rattle.bits.specs.Bit.{bit, ofBits, rank}
 use Rattle.bits.proofs.Word.{bit-lt, bit-shr, bit-shl-below, bit-shl-from, bit-and, bit-mod-two, bit-ofBits, bit-ones, bit-ones-above, ofBits-add, ofBits-lt, ext}
 use Rattle.bits.proofs.Rank.{rank-rest}
+use Rattle.bits.proofs.UpTo.{map-at}
 use Rattle.network.specs.Stage.{falling}
 use Rattle.network.specs.Decoder.{turn, turned, controlAt, decodedStage, decodeOf}
 use Rattle.network.proofs.Turn.{turned-bit}
 use Rattle.network.proofs.Travel.{length-falling}
 use Rattle.network.proofs.TableSteps.{falling-at}
-use Rattle.network.proofs.Filling.{map-at}
 
 pub shl-one : (k : ℕ) → k < 64 → 1 * 2 ^ k % 2 ^ 64 ≡ 2 ^ k
 shl-one k h = rw one-mul (mod-eq-of-lt (pow-lt h))

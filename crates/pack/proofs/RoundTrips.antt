@@ -15,12 +15,12 @@ use Rattle.bits.specs.Bit.{bit, upTo}
 use Rattle.bits.specs.Refusal.{lowest}
 use Rattle.bits.proofs.Word.{ofBits-lt, ext}
 use Rattle.bits.proofs.Places.{pick-marked-lt}
-use Rattle.bits.proofs.UpTo.{length-upTo, getD-upTo, upTo-same}
+use Rattle.bits.proofs.UpTo.{length-upTo, getD-upTo, upTo-same, map-at}
 use Rattle.gather.specs.Gather.{gatherOf, scatterOf}
 use Rattle.gather.proofs.Theorems.{scatter-gather, gather-scatter}
 use Rattle.pack.specs.Fields.{overwritten, sizeOf, needed, cut, fieldsOf, streamOf, wordAt, packInto, packedBit, spareBits, fieldAt, scatteredAt, unpackInto}
 use Rattle.pack.specs.Calls.{fieldsRefusal, unpackRefusal, fieldsAnswer, leftOf, packAnswer, packedOut, unpackAnswer, unpackedOut}
-use Rattle.pack.proofs.FilledLists.{length-overwritten, map-at}
+use Rattle.pack.proofs.FilledLists.{length-overwritten}
 use Rattle.pack.proofs.Stream.{ofBits-same}
 use Rattle.pack.proofs.Reading.{bit-packed, word-bits}
 use Rattle.pack.proofs.SpareWords.{spare-bit}

@@ -11,13 +11,14 @@ use borrow.Author.Tests.{lt-ltb, le-ltb, eq-eqb, ne-eqb}
 use Rattle.bits.specs.Bit.{bit, ofBits}
 use Rattle.bits.proofs.Word.{bit-mod-two, bit-ofBits, ofBits-lt, ofBits-add, ext}
 use Rattle.bits.proofs.Places.{pick-marked-lt}
+use Rattle.bits.proofs.UpTo.{map-at}
 use Rattle.gather.specs.Gather.{gatherOf, scatterOf}
 use Rattle.pack.specs.declared.Cursor.{Cursor}
 use Rattle.pack.specs.declared.Pair.{Pair}
 use Rattle.pack.specs.declared.Taken.{Taken}
 use Rattle.pack.specs.Fields.{sizeOf, needed, fieldsOf, streamBit, streamOf, wordAt, packInto, scatteredAt, overwritten}
 use Rattle.pack.specs.Cursor.{cursorStart, Holds, Puts, PutsPair, Gathers, finished, Awaits, Takes}
-use Rattle.pack.proofs.FilledLists.{length-overwritten, fill-none, fill-next, map-at}
+use Rattle.pack.proofs.FilledLists.{length-overwritten, fill-none, fill-next}
 use Rattle.pack.proofs.Stream.{ofBits-same, ofBits-none}
 use Rattle.pack.proofs.Reading.{scatter-read}
 

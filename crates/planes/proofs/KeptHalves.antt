@@ -16,7 +16,7 @@ use Rattle.network.specs.Word.{atLower, pairs, spreadOf}
 use Rattle.network.proofs.Index.{placeAt, on-places, half-of, block-lt}
 use Rattle.network.proofs.PairsExchanged.{lower-lt, bit-lower, bit-upper, bit-spread, bit-spread-upper, spread-lt}
 use Rattle.planes.specs.Steps.{keptPlace, keepHalves, mergeHalves}
-use Rattle.planes.specs.Rounds.{keptOf, byTurns}
+use Rattle.planes.specs.Rounds.{keptHalves, byTurns}
 
 -- the low halves of all fields, as a quotient: one computed test of the six widths
 low-halves-are : every 6 (λ e. eqb (0xFFFFFFFFFFFFFFFF / (2 ^ 2 ^ e + 1)) (pairs (2 ^ e))) ≡ true
@@ -26,12 +26,12 @@ low-halves-are = refl
 pub low-halves : (e : ℕ) → e < 6 → 0xFFFFFFFFFFFFFFFF / (2 ^ 2 ^ e + 1) ≡ pairs (2 ^ e)
 low-halves e h = eqb-true _ _ (every-at 6 (λ e. eqb (0xFFFFFFFFFFFFFFFF / (2 ^ 2 ^ e + 1)) (pairs (2 ^ e))) low-halves-are e h)
 
-bit-kept : (w half x j : ℕ) → j < 32 → bit (keptOf w half x) j ≡ bit x (keptPlace w half j)
-unfolding keptOf
+bit-kept : (w half x j : ℕ) → j < 32 → bit (keptHalves w half x) j ≡ bit x (keptPlace w half j)
+unfolding keptHalves
 bit-kept w half x j l = bit-ofBits 32 (λ i. bit x (keptPlace w half i)) j l ∙ bit-mod-two x (keptPlace w half j)
 
-kept-lt : (w half x : ℕ) → keptOf w half x < 2 ^ 32
-unfolding keptOf
+kept-lt : (w half x : ℕ) → keptHalves w half x < 2 ^ 32
+unfolding keptHalves
 kept-lt w half x = ofBits-lt 32 (λ i. bit x (keptPlace w half i))
 
 pub turns-lt : (h x y : ℕ) → byTurns h x y < 2 ^ 64
@@ -67,7 +67,7 @@ module _ (h k : ℕ) (pos : 0 < h) (fill : k * (2 * h) ≡ 64) where
       let w : 2 * h / 2 ≡ h = omega arith in
       rw (w, digits-div J ht, digits-mod J ht) (omega arith)
 
-  bit-low : (x J e t : ℕ) → t < h → placeAt h J e t < 64 → bit (keptOf (2 * h) 0 x) (J * h + t) ≡ bit x (placeAt h J 0 t)
+  bit-low : (x J e t : ℕ) → t < h → placeAt h J e t < 64 → bit (keptHalves (2 * h) 0 x) (J * h + t) ≡ bit x (placeAt h J 0 t)
   bit-low x J e t ht l = bit-kept (2 * h) 0 x (J * h + t) (below-32 J e t ht l) ∙ ap (bit x) (kept-at J t ht)
 
   module _ (x y : ℕ) where
@@ -92,7 +92,7 @@ module _ (h k : ℕ) (pos : 0 < h) (fill : k * (2 * h) ≡ 64) where
         bit-shl-from lows h (placeAt h J 1 t) (placeAt h J 0 t) l q ∙ low-bit y J t ht (omega (arith, q))
 
     -- the low halves of all fields of two words, by turns
-    pub turns-word : bitOr (bitAnd x (pairs h)) (lows * 2 ^ h % 2 ^ 64) ≡ byTurns h (keptOf (2 * h) 0 x) (keptOf (2 * h) 0 y)
+    pub turns-word : bitOr (bitAnd x (pairs h)) (lows * 2 ^ h % 2 ^ 64) ≡ byTurns h (keptHalves (2 * h) 0 x) (keptHalves (2 * h) 0 y)
     turns-word =
         ext 64 (or-lt 64 a b (omega (arith, and-le-r x (pairs h), lower-lt h (λ p. 1))) (mod-lt (lows * 2 ^ h) (pow-pos 64))) (turns-lt h kx ky)
         (on-places pos _ at)
@@ -104,10 +104,10 @@ module _ (h k : ℕ) (pos : 0 < h) (fill : k * (2 * h) ≡ 64) where
         b = lows * 2 ^ h % 2 ^ 64
 
         kx : ℕ
-        kx = keptOf (2 * h) 0 x
+        kx = keptHalves (2 * h) 0 x
 
         ky : ℕ
-        ky = keptOf (2 * h) 0 y
+        ky = keptHalves (2 * h) 0 y
 
         at : (J e t : ℕ) → e < 2 → t < h → placeAt h J e t < 64 → bit (bitOr a b) (placeAt h J e t) ≡ bit (byTurns h kx ky) (placeAt h J e t)
         at J zero t he ht l =
@@ -173,7 +173,7 @@ module _ (h k : ℕ) (pos : 0 < h) (fill : k * (2 * h) ≡ 64) where
 
 -- where packing begins and ends
 
-pub kept-shifted : (h half x : ℕ) → keptOf (2 * h) 0 (x / 2 ^ (half * h)) ≡ keptOf (2 * h) half x
+pub kept-shifted : (h half x : ℕ) → keptHalves (2 * h) 0 (x / 2 ^ (half * h)) ≡ keptHalves (2 * h) half x
 kept-shifted h half x =
     ext 32 (kept-lt (2 * h) 0 (x / 2 ^ (half * h))) (kept-lt (2 * h) half x)
     (λ j l.
@@ -181,25 +181,25 @@ kept-shifted h half x =
     let q : half * h + keptPlace (2 * h) 0 j ≡ keptPlace (2 * h) half j = rw w (omega arith) in
     bit-kept (2 * h) 0 (x / 2 ^ (half * h)) j l ∙ bit-shr x (half * h) (keptPlace (2 * h) 0 j) ∙ ap (bit x) q ∙ sym (bit-kept (2 * h) half x j l))
 
-pub keep-end : (w half x y : ℕ) → byTurns 32 (keptOf w half x) (keptOf w half y) ≡ keepHalves w half x y
+pub keep-end : (w half x y : ℕ) → byTurns 32 (keptHalves w half x) (keptHalves w half y) ≡ keepHalves w half x y
 unfolding keepHalves
-keep-end w half x y = ext 64 (turns-lt 32 (keptOf w half x) (keptOf w half y)) (ofBits-lt 64 f) (on-places {d = 32} (omega arith) _ at)
+keep-end w half x y = ext 64 (turns-lt 32 (keptHalves w half x) (keptHalves w half y)) (ofBits-lt 64 f) (on-places {d = 32} (omega arith) _ at)
   where
     f : ℕ → ℕ
     f j = bit (cond (eqb (j / 32) 0) x y) (keptPlace w half (j % 32))
 
-    by-side : (e t : ℕ) → e < 2 → t < 32 → bit (cond (eqb e 0) (keptOf w half x) (keptOf w half y)) t ≡ bit (cond (eqb e 0) x y) (keptPlace w half t)
+    by-side : (e t : ℕ) → e < 2 → t < 32 → bit (cond (eqb e 0) (keptHalves w half x) (keptHalves w half y)) t ≡ bit (cond (eqb e 0) x y) (keptPlace w half t)
     by-side zero t he l = bit-kept w half x t l
     by-side (suc zero) t he l = bit-kept w half y t l
     by-side (suc (suc e)) t he l = absurd (omega arith)
 
-    at : (J e t : ℕ) → e < 2 → t < 32 → placeAt 32 J e t < 64 → bit (byTurns 32 (keptOf w half x) (keptOf w half y)) (placeAt 32 J e t) ≡ bit (ofBits 64 f) (placeAt 32 J e t)
+    at : (J e t : ℕ) → e < 2 → t < 32 → placeAt 32 J e t < 64 → bit (byTurns 32 (keptHalves w half x) (keptHalves w half y)) (placeAt 32 J e t) ≡ bit (ofBits 64 f) (placeAt 32 J e t)
     at J e t he ht l =
         let p = placeAt 32 J e t in
         let j : J * 32 + t ≡ t = omega arith in
         let d : placeAt 32 J e t / 32 ≡ e = omega arith in
         let m : placeAt 32 J e t % 32 ≡ t = omega arith in
-        bit-turns 32 (keptOf w half x) (keptOf w half y) J e t he ht l
-        ∙ ap (bit (cond (eqb e 0) (keptOf w half x) (keptOf w half y))) j
+        bit-turns 32 (keptHalves w half x) (keptHalves w half y) J e t he ht l
+        ∙ ap (bit (cond (eqb e 0) (keptHalves w half x) (keptHalves w half y))) j
         ∙ by-side e t he ht
         ∙ sym (bit-ofBits 64 f p l ∙ bit-mod-two (cond (eqb (p / 32) 0) x y) _ ∙ rw (d, m))

@@ -22,15 +22,15 @@ abbrev pub taken : (ℕ → ℕ × ℕ) → ℕ → ℕ → ℕ
 taken from x y = ofBits 64 (λ j. bit (cond (eqb (from j .0) 0) x y) (from j .1))
 
 -- where the bit at a place comes from, behind the step that makes word n: from a source if it is in that word
-abbrev pub back : (ℕ → ℕ → ℕ → ℕ × ℕ) → ℕ → Step → ℕ × ℕ → ℕ × ℕ
-back from n s q =
+abbrev pub behind : (ℕ → ℕ → ℕ → ℕ × ℕ) → ℕ → Step → ℕ × ℕ → ℕ × ℕ
+behind from n s q =
     let o = from (s .width) (s .half) (q .1) in
     cond (eqb (q .0) n && ltb (q .1) 64) (cond (eqb (o .0) 0) (s .first) (s .second), o .1) q
 
 -- and behind a list of steps
-unfoldable pub origin : (ℕ → ℕ → ℕ → ℕ × ℕ) → ℕ → List Step → ℕ × ℕ → ℕ × ℕ
-origin from n [] q = q
-origin from n (s ∷ ss) q = back from n s (origin from (suc n) ss q)
+unfoldable pub comesFrom : (ℕ → ℕ → ℕ → ℕ × ℕ) → ℕ → List Step → ℕ × ℕ → ℕ × ℕ
+comesFrom from n [] q = q
+comesFrom from n (s ∷ ss) q = behind from n s (comesFrom from (suc n) ss q)
 
 -- one word more: it stands at the end
 
@@ -58,7 +58,7 @@ module _ (kind : ℕ → ℕ → ℕ → ℕ → ℕ) (from : ℕ → ℕ → �
   kind-lt : (w half x y : ℕ) → kind w half x y < 2 ^ 64
   kind-lt w half x y = rw is (ofBits-lt 64 (λ j. bit (cond (eqb (from w half j .0) 0) x y) (from w half j .1)))
 
-  bit-back : (s : Step) (ws : List ℕ) (q : ℕ × ℕ) → bitAt (ws ++ (resultOf kind s ws ∷ [])) q ≡ bitAt ws (back from (length ws) s q)
+  bit-back : (s : Step) (ws : List ℕ) (q : ℕ × ℕ) → bitAt (ws ++ (resultOf kind s ws ∷ [])) q ≡ bitAt ws (behind from (length ws) s q)
   bit-back s ws q = by-word (eqb (q .0) (length ws)) refl
     where
       x : ℕ
@@ -92,14 +92,14 @@ module _ (kind : ℕ → ℕ → ℕ → ℕ → ℕ) (from : ℕ → ℕ → �
       by-word true t = inside (eqb-true (q .0) (length ws) t) (ltb (q .1) 64) refl
       by-word false t = ap (λ (x : ℕ). bit x (q .1)) (getD-more-other ws r (q .0) (eqb-false (q .0) (length ws) t))
 
-  pub bit-after : (ss : List Step) (ws : List ℕ) (q : ℕ × ℕ) → bitAt (afterSteps kind ss ws) q ≡ bitAt ws (origin from (length ws) ss q)
-  unfolding afterSteps origin
+  pub bit-after : (ss : List Step) (ws : List ℕ) (q : ℕ × ℕ) → bitAt (afterSteps kind ss ws) q ≡ bitAt ws (comesFrom from (length ws) ss q)
+  unfolding afterSteps comesFrom
   bit-after [] ws q = refl
   bit-after (s ∷ ss) ws q =
       let r = resultOf kind s ws in
-      let o = origin from (suc (length ws)) ss q in
+      let o = comesFrom from (suc (length ws)) ss q in
       bit-after ss (ws ++ (r ∷ [])) q
-      ∙ ap (λ (n : ℕ). bitAt (ws ++ (r ∷ [])) (origin from n ss q)) (length-more ws r)
+      ∙ ap (λ (n : ℕ). bitAt (ws ++ (r ∷ [])) (comesFrom from n ss q)) (length-more ws r)
       ∙ bit-back s ws o
 
   -- from word m up all words fit 64 bits, if they did before

@@ -16,23 +16,23 @@ use Rattle.bits.proofs.UpTo.{length-upTo, getD-upTo}
 use Rattle.bits.proofs.Computed.{every, every-at}
 use Rattle.planes.specs.Planes.{byteOf, planesOf, wordsOfPlanes}
 use Rattle.planes.specs.Steps.{Step, keptPlace, keepHalves, mergeHalves, afterSteps, lastEight, packingSteps, mergingSteps}
-use Rattle.planes.proofs.Origins.{bitAt, taken, origin, bit-after, after-lt, length-after}
+use Rattle.planes.proofs.Origins.{bitAt, taken, comesFrom, bit-after, after-lt, length-after}
 
 abbrev samePlace : ℕ × ℕ → ℕ × ℕ → Bool
 samePlace q r = eqb (q .0) (r .0) && eqb (q .1) (r .1)
 
 -- bit n of result number p of the last eight comes from the place that the rule names
 abbrev Moves : (ℕ → ℕ → ℕ → ℕ × ℕ) → List Step → (ℕ → ℕ → ℕ × ℕ) → Type 0
-Moves from ss rule = every 512 (λ i. samePlace (origin from 8 ss (24 + i / 64, i % 64)) (rule (i / 64) (i % 64))) ≡ true
+Moves from ss rule = every 512 (λ i. samePlace (comesFrom from 8 ss (24 + i / 64, i % 64)) (rule (i / 64) (i % 64))) ≡ true
 
 moves-at : (from : ℕ → ℕ → ℕ → ℕ × ℕ) (ss : List Step) (rule : ℕ → ℕ → ℕ × ℕ) → Moves from ss rule
-    → (ws : List ℕ) (p n : ℕ) → p < 8 → n < 64 → bitAt ws (origin from 8 ss (24 + p, n)) ≡ bitAt ws (rule p n)
+    → (ws : List ℕ) (p n : ℕ) → p < 8 → n < 64 → bitAt ws (comesFrom from 8 ss (24 + p, n)) ≡ bitAt ws (rule p n)
 moves-at from ss rule t ws p n hp hn =
     let d : (64 * p + n) / 64 ≡ p = omega arith in
     let m : (64 * p + n) % 64 ≡ n = omega arith in
-    let o = origin from 8 ss (24 + p, n) in
+    let o = comesFrom from 8 ss (24 + p, n) in
     let a : samePlace o (rule p n) ≡ true =
-    rw (d, m) at (every-at 512 (λ i. samePlace (origin from 8 ss (24 + i / 64, i % 64)) (rule (i / 64) (i % 64))) t (64 * p + n) (omega arith))
+    rw (d, m) at (every-at 512 (λ i. samePlace (comesFrom from 8 ss (24 + i / 64, i % 64)) (rule (i / 64) (i % 64))) t (64 * p + n) (omega arith))
     in
     let b = both (eqb (o .0) (rule p n .0)) (eqb (o .1) (rule p n .1)) a in
     ap₂ (λ (k j : ℕ). bit (getD ws k 0) j) (eqb-true (o .0) (rule p n .0) (b .0)) (eqb-true (o .1) (rule p n .1) (b .1))
@@ -67,7 +67,7 @@ module _ (kind : ℕ → ℕ → ℕ → ℕ → ℕ) (from : ℕ → ℕ → �
         bits p hp n hn =
             let r = rule p n in
             bit-after kind from is ss ws (24 + p, n)
-            ∙ ap (λ (k : ℕ). bitAt ws (origin from k ss (24 + p, n))) eight
+            ∙ ap (λ (k : ℕ). bitAt ws (comesFrom from k ss (24 + p, n))) eight
             ∙ moves-at from ss rule t ws p n hp hn
             ∙ sym (bit-ofBits 64 (g p) n hn ∙ ap (λ (b : ℕ). b % 2) (e p n hp hn) ∙ bit-mod-two (getD ws (r .0) 0) (r .1))
 
@@ -88,7 +88,7 @@ abbrev byPlane : ℕ → ℕ → ℕ × ℕ
 byPlane p n = (n / 8, 8 * (n % 8) + p)
 
 packing-moves : Moves keptFrom packingSteps byPlane
-unfolding every packingSteps origin
+unfolding every packingSteps comesFrom
 packing-moves = refl
 
 keep-taken : (w half x y : ℕ) → keepHalves w half x y ≡ taken (keptFrom w half) x y
@@ -119,7 +119,7 @@ abbrev byByte : ℕ → ℕ → ℕ × ℕ
 byByte k i = (i % 8, 8 * k + i / 8)
 
 merging-moves : Moves mergedFrom mergingSteps byByte
-unfolding every packingSteps mergingSteps origin
+unfolding every packingSteps mergingSteps comesFrom
 merging-moves = refl
 
 merge-taken : (w half x y : ℕ) → mergeHalves w half x y ≡ taken (mergedFrom w half) x y

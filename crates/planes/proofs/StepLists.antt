@@ -14,7 +14,7 @@ use Rattle.bits.proofs.Refusals.{both}
 use Rattle.bits.proofs.Computed.{every, every-at}
 use Rattle.planes.specs.Steps.{Step, keepHalves, mergeHalves, resultOf, afterSteps, mirrored, packingSteps, mergingSteps}
 use Rattle.planes.specs.declared.Round.{Round}
-use Rattle.planes.specs.Rounds.{resultBy, fillSteps, stepAt, stepsFrom, stepsOf, isWidth, isStep}
+use Rattle.planes.specs.Rounds.{resultBy, fillSteps, stepAt, stepsFrom, roundSteps, isWidth, isStep}
 use Rattle.planes.proofs.PlaneRules.{packing-24}
 
 pub step-parts : (s : Step) → isStep s ≡ true → (s .first < 32) × (s .second < 32) × (isWidth (s .width) ≡ true) × (s .half < 2)
@@ -59,15 +59,15 @@ rounds =
 -- rounds one after the other
 unfoldable pub listed : List Round → List Step
 listed [] = []
-listed (r ∷ rs) = stepsOf r ++ listed rs
+listed (r ∷ rs) = roundSteps r ++ listed rs
 
-pub round-turn : (b : Bool) (r : Round) (rs : List Round) (n : ℕ) (ws : List ℕ) {vs : List ℕ} → vs ≡ fillSteps b n (stepsOf r) ws
+pub round-turn : (b : Bool) (r : Round) (rs : List Round) (n : ℕ) (ws : List ℕ) {vs : List ℕ} → vs ≡ fillSteps b n (roundSteps r) ws
     → fillSteps b (n + 8) (listed rs) vs ≡ fillSteps b n (listed (r ∷ rs)) ws
 unfolding listed
 round-turn b r rs n ws e =
     ap (fillSteps b (n + 8) (listed rs)) e
-    ∙ ap (λ (k : ℕ). fillSteps b (n + k) (listed rs) (fillSteps b n (stepsOf r) ws)) (sym (length-from r 0 8))
-    ∙ sym (fill-append b n (stepsOf r) (listed rs) ws)
+    ∙ ap (λ (k : ℕ). fillSteps b (n + k) (listed rs) (fillSteps b n (roundSteps r) ws)) (sym (length-from r 0 8))
+    ∙ sym (fill-append b n (roundSteps r) (listed rs) ws)
 
 -- Results into their places among zeros are results one after the other.
 
@@ -89,23 +89,23 @@ getD-room xs m i = by-cases (decLt i (length xs))
 
 -- the kind and the steps of merging (true) or packing
 
-abbrev pub kindBy : Bool → ℕ → ℕ → ℕ → ℕ → ℕ
-kindBy b = cond b mergeHalves keepHalves
+abbrev pub kindAs : Bool → ℕ → ℕ → ℕ → ℕ → ℕ
+kindAs b = cond b mergeHalves keepHalves
 
-abbrev pub stepBy : Bool → Step → Step
-stepBy b s = cond b (mirrored s) s
+abbrev pub stepAs : Bool → Step → Step
+stepAs b s = cond b (mirrored s) s
 
-result-room : (b : Bool) (s : Step) (xs : List ℕ) (m : ℕ) → resultBy b s (xs ++ replicate m 0) ≡ resultOf (kindBy b) (stepBy b s) xs
+result-room : (b : Bool) (s : Step) (xs : List ℕ) (m : ℕ) → resultBy b s (xs ++ replicate m 0) ≡ resultOf (kindAs b) (stepAs b s) xs
 result-room true s xs m = rw (getD-room xs m (s .first), getD-room xs m (s .second))
 result-room false s xs m = rw (getD-room xs m (s .first), getD-room xs m (s .second))
 
 pub filled-steps : (b : Bool) (ss : List Step) (xs : List ℕ) (n m : ℕ) → length xs ≡ n
-    → fillSteps b n ss (xs ++ replicate (length ss + m) 0) ≡ afterSteps (kindBy b) (map (stepBy b) ss) xs ++ replicate m 0
+    → fillSteps b n ss (xs ++ replicate (length ss + m) 0) ≡ afterSteps (kindAs b) (map (stepAs b) ss) xs ++ replicate m 0
 unfolding fillSteps afterSteps
 filled-steps b [] xs n m e = ap (λ (k : ℕ). xs ++ replicate k 0) (zero-add m)
 filled-steps b (s ∷ ss) xs n m e =
     let k = length ss + m in
-    let r = resultOf (kindBy b) (stepBy b s) xs in
+    let r = resultOf (kindAs b) (stepAs b s) xs in
     let room : xs ++ replicate {A = ℕ} (suc (length ss) + m) 0 ≡ xs ++ (0 ∷ replicate (length ss + m) 0) = ap (λ (j : ℕ). xs ++ replicate j 0) (suc-add (length ss) m) in
     let put : set (xs ++ replicate (suc (length ss) + m) 0) n (resultBy b s (xs ++ replicate (suc (length ss) + m) 0)) ≡ (xs ++ (r ∷ [])) ++ replicate k 0 =
     ap₂ (λ (ws : List ℕ) (v : ℕ). set ws n v) room (result-room b s xs (suc (length ss) + m))
@@ -133,7 +133,7 @@ rounds-step k t hk ht =
     let m : (8 * k + t) % 8 ≡ t = omega arith in
     rw (d, m) at (every-at 24 (λ i. isStep (stepAt (getD rounds (i / 8) noRound) (i % 8))) all-steps (8 * k + t) (omega arith))
 
-pub rounds-turn : (b : Bool) (k : ℕ) (ws : List ℕ) {vs : List ℕ} → k < 3 → vs ≡ fillSteps b (8 + 8 * k) (stepsOf (getD rounds k noRound)) ws
+pub rounds-turn : (b : Bool) (k : ℕ) (ws : List ℕ) {vs : List ℕ} → k < 3 → vs ≡ fillSteps b (8 + 8 * k) (roundSteps (getD rounds k noRound)) ws
     → fillSteps b (8 + 8 * (k + 1)) (listed (drop (k + 1) rounds)) vs ≡ fillSteps b (8 + 8 * k) (listed (drop k rounds)) ws
 rounds-turn b k ws {vs} h e =
     let r = getD rounds k noRound in
@@ -141,17 +141,17 @@ rounds-turn b k ws {vs} h e =
     let j : k + 1 ≡ suc k = omega arith in
     rw (n, j) (round-turn b r (drop (suc k) rounds) (8 + 8 * k) ws e) ∙ ap (λ (rs : List Round). fillSteps b (8 + 8 * k) (listed rs) ws) (sym (drop-cons rounds k noRound h))
 
-by-kind : (b : Bool) → map (stepBy b) packingSteps ≡ cond b mergingSteps packingSteps
+by-kind : (b : Bool) → map (stepAs b) packingSteps ≡ cond b mergingSteps packingSteps
 unfolding packingSteps mergingSteps
 by-kind true = refl
 by-kind false = refl
 
 pub rounds-end : (b : Bool) (k : ℕ) (ws : List ℕ) {begun filled : List ℕ} → length ws ≡ 8 → k ≡ 3 → begun ≡ ws ++ replicate 24 0
-    → fillSteps b (8 + 8 * k) (listed (drop k rounds)) filled ≡ fillSteps b 8 (listed rounds) begun → filled ≡ afterSteps (kindBy b) (cond b mergingSteps packingSteps) ws
+    → fillSteps b (8 + 8 * k) (listed (drop k rounds)) filled ≡ fillSteps b 8 (listed rounds) begun → filled ≡ afterSteps (kindAs b) (cond b mergingSteps packingSteps) ws
 unfolding fillSteps listed
 rounds-end b k ws {begun} {filled} eight e s q =
     rw e at q
     ∙ ap₂ (fillSteps b 8) listed-all (s ∙ ap (λ (n : ℕ). ws ++ replicate (n + 0) 0) (sym packing-24))
     ∙ filled-steps b packingSteps ws 8 0 eight
-    ∙ append-nil (afterSteps (kindBy b) (map (stepBy b) packingSteps) ws)
-    ∙ ap (λ (ss : List Step). afterSteps (kindBy b) ss ws) (by-kind b)
+    ∙ append-nil (afterSteps (kindAs b) (map (stepAs b) packingSteps) ws)
+    ∙ ap (λ (ss : List Step). afterSteps (kindAs b) ss ws) (by-kind b)

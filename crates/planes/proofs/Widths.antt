@@ -13,7 +13,7 @@ use Rattle.bits.specs.Bit.{ofBits}
 use Rattle.network.specs.Word.{atLower, pairs, spreadOf}
 use Rattle.network.proofs.PairsExchanged.{spread-none, spread-step}
 use Rattle.planes.specs.Steps.{mergeHalves}
-use Rattle.planes.specs.Rounds.{isWidth, IsHalf, keptOf, byTurns, crossedOf}
+use Rattle.planes.specs.Rounds.{isWidth, IsHalf, keptHalves, byTurns, crossedOf}
 use Rattle.planes.proofs.KeptHalves.{low-halves, turns-word, merge-word, kept-shifted}
 use Rattle.planes.proofs.Crossing.{turns-wider}
 
@@ -65,11 +65,11 @@ module _ (w : ℕ) (t : isWidth w ≡ true) where
   pub width-pos : 0 < w / 2
   width-pos = omega (arith, half-width, pow-pos (width-power w t .0))
 
-  pub width-le : w ≤ 8
-  width-le = let l : width-power w t .0 ≤ 2 = omega (arith, width-power w t .1 .0) in omega (arith, twice, pow-mono l)
+  pub width-le-8 : w ≤ 8
+  width-le-8 = let l : width-power w t .0 ≤ 2 = omega (arith, width-power w t .1 .0) in omega (arith, twice, pow-mono l)
 
   pub shift-le : (half : ℕ) → half < 2 → half * (w / 2) ≤ 4
-  shift-le half l = let m : half ≤ 1 = omega arith in omega (arith, mul-le-mul-right (w / 2) m, width-le)
+  shift-le half l = let m : half ≤ 1 = omega arith in omega (arith, mul-le-mul-right (w / 2) m, width-le-8)
 
   width-fills : 2 ^ (5 - width-power w t .0) * (2 * (w / 2)) ≡ 64
   width-fills = let l : width-power w t .0 < 6 = omega (arith, width-power w t .1 .0) in rw half-width (fills (width-power w t .0) l)
@@ -81,8 +81,8 @@ module _ (w : ℕ) (t : isWidth w ≡ true) where
       merge-word (w / 2) (2 ^ (5 - width-power w t .0)) width-pos width-fills half x y ∙ ap (λ (v : ℕ). mergeHalves v half x y) width-even
 
   -- where packing begins
-  pub kept-begun : (half x : ℕ) → keptOf (2 * (w / 2)) 0 (x / 2 ^ (half * (w / 2))) ≡ keptOf w half x
-  kept-begun half x = kept-shifted (w / 2) half x ∙ ap (λ (v : ℕ). keptOf v half x) width-even
+  pub kept-begun : (half x : ℕ) → keptHalves (2 * (w / 2)) 0 (x / 2 ^ (half * (w / 2))) ≡ keptHalves w half x
+  kept-begun half x = kept-shifted (w / 2) half x ∙ ap (λ (v : ℕ). keptHalves v half x) width-even
 
   -- merging goes down to halves of the width
   pub narrower-half : (h : ℕ) → IsHalf h → w < 2 * h → IsHalf (h / 2) × (2 * (h / 2) ≡ h) × (w ≤ 2 * (h / 2)) × (0 < h / 2)
@@ -134,7 +134,7 @@ half-fills : (h : ℕ) (is : IsHalf h) → 2 ^ (5 - is .0) * (2 * h) ≡ 64
 half-fills h is = rw (is .1 .1) (fills (is .0) (is .1 .0))
 
 -- the low halves of two words
-pub turns-of : (h : ℕ) → IsHalf h → (x y : ℕ) → bitOr (bitAnd x (pairs h)) (bitAnd y (pairs h) * 2 ^ h % 2 ^ 64) ≡ byTurns h (keptOf (2 * h) 0 x) (keptOf (2 * h) 0 y)
+pub turns-of : (h : ℕ) → IsHalf h → (x y : ℕ) → bitOr (bitAnd x (pairs h)) (bitAnd y (pairs h) * 2 ^ h % 2 ^ 64) ≡ byTurns h (keptHalves (2 * h) 0 x) (keptHalves (2 * h) 0 y)
 turns-of h is x y = turns-word h (2 ^ (5 - is .0)) (half-pos h is) (half-fills h is) x y
 
 -- a turn of packing

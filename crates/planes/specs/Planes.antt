@@ -12,6 +12,6 @@ byteOf ws n = getD ws (n / 8) 0 / 2 ^ (8 * (n % 8)) % 2 ^ 8
 unfoldable pub planesOf : List ℕ → List ℕ
 planesOf ws = upTo 8 (λ p. ofBits 64 (λ n. bit (byteOf ws n) p))
 
--- "and the way back is wanted too": bit i of word k, which is bit i % 8 of byte 8 × k + i / 8, is that line of that plane
+-- "and the way back is wanted too": bit i of word k is bit i % 8 of byte 8×k + i / 8, so it comes from plane i % 8, bit 8×k + i / 8
 unfoldable pub wordsOfPlanes : List ℕ → List ℕ
 wordsOfPlanes ps = upTo 8 (λ k. ofBits 64 (λ i. bit (getD ps (i % 8) 0) (8 * k + i / 8)))

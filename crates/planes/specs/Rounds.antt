@@ -8,7 +8,7 @@ use lib.Dec.{eqb, ltb}
 use lib.ListN.{getD, set}
 use Rattle.bits.specs.Bit.{bit, ofBits}
 use Rattle.planes.specs.declared.Round.{Round}
-use Rattle.planes.specs.Steps.{Step, keptPlace, keepHalves, mergeHalves, resultOf, step, mirrored}
+use Rattle.planes.specs.Steps.{Step, keptPlace, keepHalves, mergeHalves, resultOf, stepOn, mirrored}
 
 -- what a step makes of the words so far, by merging (true) or by packing
 abbrev pub resultBy : Bool → Step → List ℕ → ℕ
@@ -24,15 +24,15 @@ abbrev pub byteAt : ℕ → ℕ → ℕ
 byteAt x t = x / 2 ^ (8 * t) % 2 ^ 8
 
 abbrev pub stepAt : Round → ℕ → Step
-stepAt r t = step (byteAt (getD (r .sources) 0 0) t) (byteAt (getD (r .sources) 1 0) t) (byteAt (getD (r .fields) 0 0) t) (byteAt (getD (r .fields) 1 0) t)
+stepAt r t = stepOn (byteAt (getD (r .sources) 0 0) t) (byteAt (getD (r .sources) 1 0) t) (byteAt (getD (r .fields) 0 0) t) (byteAt (getD (r .fields) 1 0) t)
 
 -- n steps from byte t on
 unfoldable pub stepsFrom : Round → ℕ → ℕ → List Step
 stepsFrom r t zero = []
 stepsFrom r t (suc n) = stepAt r t ∷ stepsFrom r (suc t) n
 
-abbrev pub stepsOf : Round → List Step
-stepsOf r = stepsFrom r 0 8
+abbrev pub roundSteps : Round → List Step
+roundSteps r = stepsFrom r 0 8
 
 -- a field's width in a step
 abbrev pub isWidth : ℕ → Bool
@@ -47,10 +47,10 @@ abbrev pub IsHalf : ℕ → Type 0
 IsHalf h = (e : ℕ) × ((e < 6) × (h ≡ 2 ^ e))
 
 -- the kept halves of one word, end to end
-unfoldable pub keptOf : ℕ → ℕ → ℕ → ℕ
-keptOf w half x = ofBits 32 (λ j. bit x (keptPlace w half j))
+unfoldable pub keptHalves : ℕ → ℕ → ℕ → ℕ
+keptHalves w half x = ofBits 32 (λ j. bit x (keptPlace w half j))
 
--- h bits of x and of y by turns: half J of the fields' low halves is bits J×h and up of x, of their high halves those of y
+-- h bits of x and of y by turns: the low half of field J is bits J×h to J×h + h - 1 of x, the high half those of y
 unfoldable pub byTurns : ℕ → ℕ → ℕ → ℕ
 byTurns h x y = ofBits 64 (λ p. bit (cond (eqb (p / h % 2) 0) x y) (p / h / 2 * h + p % h))
 

@@ -41,42 +41,42 @@ abbrev pub lastEight : List ℕ → List ℕ
 lastEight ws = drop (length ws - 8) ws
 
 -- a step by its sources, its field width and its half
-abbrev pub step : ℕ → ℕ → ℕ → ℕ → Step
-step first second width half = record { first = first; second = second; width = width; half = half }
+abbrev pub stepOn : ℕ → ℕ → ℕ → ℕ → Step
+stepOn first second width half = record { first = first; second = second; width = width; half = half }
 
 -- "a list of just 24 such steps": document 000's (its Figure 6), with the low half before the high one, so that the planes come out in rising order. Its bit 0
 -- is the highest bit, plane 7 here.
 unfoldable pub packingSteps : List Step
 packingSteps =
-    step 0 1 8 0
-    ∷ step 0 1 8 1
-    ∷ step 2 3 8 0
-    ∷ step 2 3 8 1
-    ∷ step 4 5 8 0
-    ∷ step 4 5 8 1
-    ∷ step 6 7 8 0
-    ∷ step 6 7 8 1
-    ∷ step 8 10 4 0
-    ∷ step 8 10 4 1
-    ∷ step 9 11 4 0
-    ∷ step 9 11 4 1
-    ∷ step 12 14 4 0
-    ∷ step 12 14 4 1
-    ∷ step 13 15 4 0
-    ∷ step 13 15 4 1
-    ∷ step 16 20 2 0
-    ∷ step 16 20 2 1
-    ∷ step 17 21 2 0
-    ∷ step 17 21 2 1
-    ∷ step 18 22 2 0
-    ∷ step 18 22 2 1
-    ∷ step 19 23 2 0
-    ∷ step 19 23 2 1
+    stepOn 0 1 8 0
+    ∷ stepOn 0 1 8 1
+    ∷ stepOn 2 3 8 0
+    ∷ stepOn 2 3 8 1
+    ∷ stepOn 4 5 8 0
+    ∷ stepOn 4 5 8 1
+    ∷ stepOn 6 7 8 0
+    ∷ stepOn 6 7 8 1
+    ∷ stepOn 8 10 4 0
+    ∷ stepOn 8 10 4 1
+    ∷ stepOn 9 11 4 0
+    ∷ stepOn 9 11 4 1
+    ∷ stepOn 12 14 4 0
+    ∷ stepOn 12 14 4 1
+    ∷ stepOn 13 15 4 0
+    ∷ stepOn 13 15 4 1
+    ∷ stepOn 16 20 2 0
+    ∷ stepOn 16 20 2 1
+    ∷ stepOn 17 21 2 0
+    ∷ stepOn 17 21 2 1
+    ∷ stepOn 18 22 2 0
+    ∷ stepOn 18 22 2 1
+    ∷ stepOn 19 23 2 0
+    ∷ stepOn 19 23 2 1
     ∷ []
 
 -- the same sources and half, and fields of 2, 4 or 8 bits in place of 8, 4 or 2
 abbrev pub mirrored : Step → Step
-mirrored s = step (s .first) (s .second) (16 / s .width) (s .half)
+mirrored s = stepOn (s .first) (s .second) (16 / s .width) (s .half)
 
 -- the way back: document 000's Figure 7
 unfoldable pub mergingSteps : List Step

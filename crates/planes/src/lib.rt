@@ -7,7 +7,7 @@ ghost use lib.ListN.{replicate};
 ghost use Rattle.network.specs.Word.{pairs, spreadOf};
 ghost use Rattle.planes.specs.Planes.{planesOf, wordsOfPlanes};
 ghost use Rattle.planes.specs.Steps.{keepHalves, mergeHalves, packingSteps, mergingSteps, afterSteps, lastEight};
-ghost use Rattle.planes.specs.Rounds.{resultBy, fillSteps, byteAt, stepAt, stepsOf, isWidth, isStep, IsHalf, keptOf, byTurns, crossedOf};
+ghost use Rattle.planes.specs.Rounds.{resultBy, fillSteps, byteAt, stepAt, roundSteps, isWidth, isStep, IsHalf, keptHalves, byTurns, crossedOf};
 
 // Eight planes, or the eight words of sixty-four bytes.
 #[repr(C)]
@@ -58,7 +58,7 @@ fn low_halves(h: u64) -> u64
 // internal: half a field's width. The low halves of all fields of two words, by turns: in each field the first's below the second's.
 fn by_turns(h: u64, first: u64, second: u64) -> u64
     requires { ⌜ IsHalf h ⌝ }
-    ensures { λ r. ⌜ r ≡ byTurns h (keptOf (2 * h) 0 first) (keptOf (2 * h) 0 second) ⌝ }
+    ensures { λ r. ⌜ r ≡ byTurns h (keptHalves (2 * h) 0 first) (keptHalves (2 * h) 0 second) ⌝ }
 {
     let low = low_halves(h);
     (first & low) | ((second & low) << h)
@@ -128,7 +128,7 @@ fn carry_step(merging: bool, steps: Round, turn: usize, words: [u64; 32]) -> u64
 // internal: a round by its number. The words with the results of its eight steps.
 fn carry_round(merging: bool, round: usize, steps: Round, words: [u64; 32]) -> [u64; 32]
     requires { ⌜ (round < 3) × ((t : ℕ) → t < 8 → isStep (stepAt steps t) ≡ true) ⌝ }
-    ensures { λ r. ⌜ r ≡ fillSteps merging (8 + 8 * round) (stepsOf steps) words ⌝ }
+    ensures { λ r. ⌜ r ≡ fillSteps merging (8 + 8 * round) (roundSteps steps) words ⌝ }
 {
     let mut filled = words;
     let mut turn: usize = 0;

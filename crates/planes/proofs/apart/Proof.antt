@@ -4,7 +4,7 @@ use Prim.Native.Nat.{ℕ, _*_, _/_, _%_, _^_, _≤_}
 use native.Mathlib.Omega.{arith}
 use Rattle.network.specs.Word.{spreadOf}
 use Rattle.planes.specs.Rounds.{IsHalf}
-use Rattle.planes.proofs.Widths.{width-le, half-le, half-pos, apart-start, narrower-half, apart-turn}
+use Rattle.planes.proofs.Widths.{width-le-8, half-le, half-pos, apart-start, narrower-half, apart-turn}
 use borrow.Author.Needs.{needs}
 use Rattle.planes.proofs.apart.Statement.{statement}
 use Rattle.planes.proofs.apart.Tie as tie
@@ -27,7 +27,7 @@ low-halves-requires c κs = (5, (omega arith, refl))
 loop-holds : tie.Need-loop-holds Inv-loop μ-loop
 loop-holds c =
     let a = c .before .args in
-    ((5, (omega arith, refl)), omega (arith, width-le (a .width) (c .before .pre .0)), rw (c .low-halves .ensures) (apart-start (a .word) (a .half * 32)))
+    ((5, (omega arith, refl)), omega (arith, width-le-8 (a .width) (c .before .pre .0)), rw (c .low-halves .ensures) (apart-start (a .word) (a .half * 32)))
 
 mul-loop : tie.Need-mul-loop Inv-loop μ-loop
 mul-loop c = record { fits = omega (arith, half-le (c .loop .h) (c .loop .inv .0)) }

@@ -2,7 +2,7 @@
 use mathlib.Core.Path.{_≡_, _∙_, ap}
 use Prim.Native.Nat.{ℕ, _+_, _-_, _*_, _≤_}
 use native.Mathlib.Omega.{arith}
-use Rattle.planes.specs.Rounds.{fillSteps, stepsFrom, stepsOf}
+use Rattle.planes.specs.Rounds.{fillSteps, stepsFrom, roundSteps}
 use Rattle.planes.proofs.StepLists.{step-turn}
 use borrow.Author.Needs.{needs}
 use Rattle.planes.proofs.carry_round.Statement.{statement}
@@ -10,7 +10,7 @@ use Rattle.planes.proofs.carry_round.Tie as tie
 
 abbrev Inv-loop : tie.InvT-loop
 Inv-loop merging round steps filled₀ turn₀ filled turn =
-    (turn ≤ 8) × (fillSteps merging (8 + 8 * round + turn) (stepsFrom steps turn (8 - turn)) filled ≡ fillSteps merging (8 + 8 * round) (stepsOf steps) filled₀)
+    (turn ≤ 8) × (fillSteps merging (8 + 8 * round + turn) (stepsFrom steps turn (8 - turn)) filled ≡ fillSteps merging (8 + 8 * round) (roundSteps steps) filled₀)
 
 abbrev μ-loop : tie.MeasureT-loop
 μ-loop merging round steps filled₀ turn₀ filled turn = 8 - turn
@@ -19,7 +19,7 @@ loop-holds : tie.Need-loop-holds Inv-loop μ-loop
 loop-holds c =
     let a = c .args in
     let e : 8 + 8 * a .round + 0 ≡ 8 + 8 * a .round = omega arith in
-    (search needs, ap (λ (n : ℕ). fillSteps (a .merging) n (stepsOf (a .steps)) (a .words)) e)
+    (search needs, ap (λ (n : ℕ). fillSteps (a .merging) n (roundSteps (a .steps)) (a .words)) e)
 
 carry-step-requires : tie.Need-carry-step-requires Inv-loop μ-loop
 carry-step-requires c κs = (search needs, c .before .before .pre .1 (c .before .loop .turn) (search needs))

@@ -2,7 +2,7 @@
 use mathlib.Core.Path.{_≡_, _∙_, ap, ap₂}
 use Prim.Native.Nat.{ℕ, _-_, _/_}
 use native.Mathlib.Omega.{arith}
-use Rattle.planes.specs.Rounds.{IsHalf, keptOf, byTurns, crossedOf}
+use Rattle.planes.specs.Rounds.{IsHalf, keptHalves, byTurns, crossedOf}
 use Rattle.planes.proofs.KeptHalves.{keep-end}
 use Rattle.planes.proofs.Widths.{width-half, shift-le, kept-begun, wider-half, half-pos, half-le, cross-up}
 use borrow.Author.Needs.{needs}
@@ -10,7 +10,7 @@ use Rattle.planes.proofs.keep_halves.Statement.{statement}
 use Rattle.planes.proofs.keep_halves.Tie as tie
 
 abbrev Inv-loop : tie.InvT-loop
-Inv-loop width half first second h₀ word₀ h word = IsHalf h × (word ≡ byTurns h (keptOf width half first) (keptOf width half second))
+Inv-loop width half first second h₀ word₀ h word = IsHalf h × (word ≡ byTurns h (keptHalves width half first) (keptHalves width half second))
 
 abbrev μ-loop : tie.MeasureT-loop
 μ-loop width half first second h₀ word₀ h word = 32 - h
@@ -54,7 +54,7 @@ loop-again c =
       wider-half (l .h) (l .inv .0) (search needs),
       c .crossed .ensures
           ∙ ap (crossedOf (l .h)) (l .inv .1)
-          ∙ cross-up (l .h) (l .inv .0) (search needs) (keptOf (a .width) (a .half) (a .first)) (keptOf (a .width) (a .half) (a .second)),
+          ∙ cross-up (l .h) (l .inv .0) (search needs) (keptHalves (a .width) (a .half) (a .first)) (keptHalves (a .width) (a .half) (a .second)),
     )
 
 returns : tie.Need-returns Inv-loop μ-loop
@@ -63,7 +63,7 @@ returns c =
     let a = c .before .before .before .args in
     let e : l .h ≡ 32 = omega (arith, half-le (l .h) (l .inv .0)) in
     l .inv .1
-    ∙ ap (λ (h : ℕ). byTurns h (keptOf (a .width) (a .half) (a .first)) (keptOf (a .width) (a .half) (a .second))) e
+    ∙ ap (λ (h : ℕ). byTurns h (keptHalves (a .width) (a .half) (a .first)) (keptHalves (a .width) (a .half) (a .second))) e
     ∙ keep-end (a .width) (a .half) (a .first) (a .second)
 
 pub keep-halves-spec : {M : Type 1} → statement M

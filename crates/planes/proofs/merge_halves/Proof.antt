@@ -1,6 +1,6 @@
 -- `planes::merge_halves` meets its contract. Assumes nothing.
 use native.Mathlib.Omega.{arith}
-use Rattle.planes.proofs.Widths.{width-le, merged-word}
+use Rattle.planes.proofs.Widths.{width-le-8, merged-word}
 use borrow.Author.Needs.{needs}
 use Rattle.planes.proofs.merge_halves.Statement.{statement}
 use Rattle.planes.proofs.merge_halves.Tie as tie
@@ -12,7 +12,7 @@ apart-requires-2 : tie.Need-apart-requires-2
 apart-requires-2 c κs = search needs
 
 shl-result : tie.Need-shl-result
-shl-result c = let s = c .before .before in omega (arith, width-le (s .args .width) (s .pre .0))
+shl-result c = let s = c .before .before in omega (arith, width-le-8 (s .args .width) (s .pre .0))
 
 returns : tie.Need-returns
 returns c =
