@@ -14,7 +14,7 @@ use Rattle.bits.proofs.Refusals.{both}
 use Rattle.bits.proofs.Computed.{every, every-at}
 use Rattle.planes.specs.Steps.{Step, keepHalves, mergeHalves, resultOf, afterSteps, mirrored, packingSteps, mergingSteps}
 use Rattle.planes.specs.declared.Round.{Round}
-use Rattle.planes.specs.Rounds.{resultBy, fillSteps, stepAt, stepsFrom, roundSteps, isWidth, isStep}
+use Rattle.planes.specs.Rounds.{resultBy, fillSteps, stepAt, stepsFrom, roundSteps, noRound, rounds, roundAt, isWidth, isStep}
 use Rattle.planes.proofs.PlaneRules.{packing-24}
 
 pub step-parts : (s : Step) → isStep s ≡ true → (s .first < 32) × (s .second < 32) × (isWidth (s .width) ≡ true) × (s .half < 2)
@@ -47,14 +47,6 @@ length-from : (r : Round) (t n : ℕ) → length (stepsFrom r t n) ≡ n
 unfolding stepsFrom
 length-from r t zero = refl
 length-from r t (suc n) = ap suc (length-from r (suc t) n)
-
--- the code's table
-abbrev pub rounds : List Round
-rounds =
-    record { sources = 0x0606040402020000 ∷ 0x0707050503030101 ∷ []; fields = 0x0808080808080808 ∷ 0x0100010001000100 ∷ [] }
-    ∷ record { sources = 0x0D0D0C0C09090808 ∷ 0x0F0F0E0E0B0B0A0A ∷ []; fields = 0x0404040404040404 ∷ 0x0100010001000100 ∷ [] }
-    ∷ record { sources = 0x1313121211111010 ∷ 0x1717161615151414 ∷ []; fields = 0x0202020202020202 ∷ 0x0100010001000100 ∷ [] }
-    ∷ []
 
 -- rounds one after the other
 unfoldable pub listed : List Round → List Step
@@ -120,23 +112,20 @@ listed-all : listed rounds ≡ packingSteps
 unfolding listed stepsFrom packingSteps
 listed-all = refl
 
-abbrev noRound : Round
-noRound = record { sources = []; fields = [] }
-
-all-steps : every 24 (λ i. isStep (stepAt (getD rounds (i / 8) noRound) (i % 8))) ≡ true
+all-steps : every 24 (λ i. isStep (stepAt (roundAt (i / 8)) (i % 8))) ≡ true
 unfolding every
 all-steps = refl
 
-pub rounds-step : (k t : ℕ) → k < 3 → t < 8 → isStep (stepAt (getD rounds k noRound) t) ≡ true
+pub rounds-step : (k t : ℕ) → k < 3 → t < 8 → isStep (stepAt (roundAt k) t) ≡ true
 rounds-step k t hk ht =
     let d : (8 * k + t) / 8 ≡ k = omega arith in
     let m : (8 * k + t) % 8 ≡ t = omega arith in
-    rw (d, m) at (every-at 24 (λ i. isStep (stepAt (getD rounds (i / 8) noRound) (i % 8))) all-steps (8 * k + t) (omega arith))
+    rw (d, m) at (every-at 24 (λ i. isStep (stepAt (roundAt (i / 8)) (i % 8))) all-steps (8 * k + t) (omega arith))
 
-pub rounds-turn : (b : Bool) (k : ℕ) (ws : List ℕ) {vs : List ℕ} → k < 3 → vs ≡ fillSteps b (8 + 8 * k) (roundSteps (getD rounds k noRound)) ws
+pub rounds-turn : (b : Bool) (k : ℕ) (ws : List ℕ) {vs : List ℕ} → k < 3 → vs ≡ fillSteps b (8 + 8 * k) (roundSteps (roundAt k)) ws
     → fillSteps b (8 + 8 * (k + 1)) (listed (drop (k + 1) rounds)) vs ≡ fillSteps b (8 + 8 * k) (listed (drop k rounds)) ws
 rounds-turn b k ws {vs} h e =
-    let r = getD rounds k noRound in
+    let r = roundAt k in
     let n : 8 + 8 * (k + 1) ≡ 8 + 8 * k + 8 = omega arith in
     let j : k + 1 ≡ suc k = omega arith in
     rw (n, j) (round-turn b r (drop (suc k) rounds) (8 + 8 * k) ws e) ∙ ap (λ (rs : List Round). fillSteps b (8 + 8 * k) (listed rs) ws) (sym (drop-cons rounds k noRound h))

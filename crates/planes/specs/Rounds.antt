@@ -34,6 +34,20 @@ stepsFrom r t (suc n) = stepAt r t ∷ stepsFrom r (suc t) n
 abbrev pub roundSteps : Round → List Step
 roundSteps r = stepsFrom r 0 8
 
+-- the code's table
+abbrev pub rounds : List Round
+rounds =
+    record { sources = 0x0606040402020000 ∷ 0x0707050503030101 ∷ []; fields = 0x0808080808080808 ∷ 0x0100010001000100 ∷ [] }
+    ∷ record { sources = 0x0D0D0C0C09090808 ∷ 0x0F0F0E0E0B0B0A0A ∷ []; fields = 0x0404040404040404 ∷ 0x0100010001000100 ∷ [] }
+    ∷ record { sources = 0x1313121211111010 ∷ 0x1717161615151414 ∷ []; fields = 0x0202020202020202 ∷ 0x0100010001000100 ∷ [] }
+    ∷ []
+
+abbrev pub noRound : Round
+noRound = record { sources = []; fields = [] }
+
+abbrev pub roundAt : ℕ → Round
+roundAt n = getD rounds n noRound
+
 -- a field's width in a step
 abbrev pub isWidth : ℕ → Bool
 isWidth w = eqb w 2 || (eqb w 4 || eqb w 8)

@@ -2,12 +2,12 @@
 ghost use mathlib.Core.Path.{_≡_};
 ghost use mathlib.Core.Bool.{true};
 ghost use mathlib.Core.List.{_++_};
-ghost use Prim.Native.Nat.{ℕ, _+_, _*_, _/_, _%_, _^_, _<_};
+ghost use Prim.Native.Nat.{_+_, _*_, _/_, _%_, _^_, _<_};
 ghost use lib.ListN.{replicate};
 ghost use Rattle.network.specs.Word.{pairs, spreadOf};
 ghost use Rattle.planes.specs.Planes.{planesOf, wordsOfPlanes};
 ghost use Rattle.planes.specs.Steps.{keepHalves, mergeHalves, packingSteps, mergingSteps, afterSteps, lastEight};
-ghost use Rattle.planes.specs.Rounds.{resultBy, fillSteps, byteAt, stepAt, roundSteps, isWidth, isStep, IsHalf, keptHalves, byTurns, crossedOf};
+ghost use Rattle.planes.specs.Rounds.{resultBy, fillSteps, byteAt, stepAt, roundSteps, roundAt, isWidth, isStep, IsHalf, keptHalves, byTurns, crossedOf};
 
 // Eight planes, or the eight words of sixty-four bytes.
 #[repr(C)]
@@ -127,7 +127,7 @@ fn carry_step(merging: bool, steps: Round, turn: usize, words: [u64; 32]) -> u64
 
 // internal: a round by its number. The words with the results of its eight steps.
 fn carry_round(merging: bool, round: usize, steps: Round, words: [u64; 32]) -> [u64; 32]
-    requires { ⌜ (round < 3) × ((t : ℕ) → t < 8 → isStep (stepAt steps t) ≡ true) ⌝ }
+    requires { ⌜ (round < 3) × (steps ≡ roundAt round) ⌝ }
     ensures { λ r. ⌜ r ≡ fillSteps merging (8 + 8 * round) (roundSteps steps) words ⌝ }
 {
     let mut filled = words;

@@ -3,7 +3,7 @@ use mathlib.Core.Path.{_≡_, _∙_, ap}
 use Prim.Native.Nat.{ℕ, _+_, _-_, _*_, _≤_}
 use native.Mathlib.Omega.{arith}
 use Rattle.planes.specs.Rounds.{fillSteps, stepsFrom, roundSteps}
-use Rattle.planes.proofs.StepLists.{step-turn}
+use Rattle.planes.proofs.StepLists.{step-turn, rounds-step}
 use borrow.Author.Needs.{needs}
 use Rattle.planes.proofs.carry_round.Statement.{statement}
 use Rattle.planes.proofs.carry_round.Tie as tie
@@ -22,7 +22,7 @@ loop-holds c =
     (search needs, ap (λ (n : ℕ). fillSteps (a .merging) n (roundSteps (a .steps)) (a .words)) e)
 
 carry-step-requires : tie.Need-carry-step-requires Inv-loop μ-loop
-carry-step-requires c κs = (search needs, c .before .before .pre .1 (c .before .loop .turn) (search needs))
+carry-step-requires c κs = (search needs, rw (c .before .before .pre .1) (rounds-step (c .before .before .args .round) (c .before .loop .turn) (search needs) (search needs)))
 
 mul-filled : tie.Need-mul-filled Inv-loop μ-loop
 mul-filled c = search needs
