@@ -33,7 +33,7 @@
 /* The version of this header, and of the archive that it belongs to. */
 #define TB_VERSION_MAJOR 0
 #define TB_VERSION_MINOR 5
-#define TB_VERSION_PATCH 0
+#define TB_VERSION_PATCH 1
 
 #ifdef __cplusplus
 extern "C" {

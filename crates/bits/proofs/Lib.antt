@@ -3,4 +3,5 @@ pub mod Rank
 pub mod UpTo
 pub mod Places
 pub mod Refusals
+pub mod ByteCounts
 pub mod Computed

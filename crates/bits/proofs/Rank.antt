@@ -4,12 +4,12 @@ use mathlib.Core.Logic.{_⊎_, inl, inr}
 use Prim.Native.Nat.{ℕ, zero, suc, _+_, _-_, _/_, _%_, _^_, _<_, _≤_}
 use native.Mathlib.Omega.{arith}
 use native.Mathlib.Decide.{decLt}
-use native.Mathlib.Nat.{not-suc-le-zero, pow-suc, mod-lt}
+use native.Mathlib.Nat.{not-suc-le-zero, pow-suc}
 use lib.Arith.{lt-one}
-use lib.Pow.{pow-mono, pow-pos}
+use lib.Pow.{pow-mono}
 use lib.Count.{ones, ones-step}
 use Rattle.bits.specs.Bit.{bit, rank}
-use Rattle.bits.proofs.Word.{bit-lt, bit-cases, bit-zero, bit-suc, bit-not, bit-mod}
+use Rattle.bits.proofs.Word.{bit-lt, bit-cases, bit-zero, bit-suc, bit-shr, bit-not, bit-mod}
 
 pub rank-le : (m p : ℕ) → rank m p ≤ p
 unfolding rank
@@ -29,6 +29,14 @@ rank-between m p (suc q) h = by-cases (decLt q p) (rank-between m p q)
 
 pub rank-mono : (m : ℕ) {p q : ℕ} → p ≤ q → rank m p ≤ rank m q
 rank-mono m {p} {q} h = rank-between m p q h .0
+
+-- the marked places of the lower v bits, and of those above
+pub rank-add : (v m w : ℕ) → rank m (v + w) ≡ rank m v + rank (m / 2 ^ v) w
+unfolding rank
+rank-add v m zero = let e : v + zero ≡ v = omega arith in omega (arith, ap (rank m) e)
+rank-add v m (suc w) =
+    let e : v + suc w ≡ suc (v + w) = omega arith in
+    omega (arith, ap (rank m) e, rank-add v m w, bit-shr m v w)
 
 -- a marked place below w is among the marked places of width w
 pub rank-lt : (m : ℕ) {p w : ℕ} → bit m p ≡ 1 → p < w → rank m p < rank m w
@@ -75,6 +83,3 @@ pub rank-mod : (m q p : ℕ) → p ≤ q → rank (m % 2 ^ q) p ≡ rank m p
 unfolding rank
 rank-mod m q zero h = refl
 rank-mod m q (suc p) h = omega (arith, rank-mod m q p (omega arith), bit-mod m q p h)
-
-pub rank-rest : (m q : ℕ) → q ≤ 64 → rank (m % 2 ^ q) 64 ≡ rank m q
-rank-rest m q h = rank-wider (mod-lt m (pow-pos q)) h ∙ rank-mod m q q (omega arith)

@@ -126,6 +126,13 @@ unfolding ofBits
 ofBits-lt zero f = omega arith
 ofBits-lt (suc w) f = omega (arith, ofBits-lt w (λ i. f (suc i)), pow-suc 2 w, mod-lt (f zero) {m = 2} (omega arith))
 
+pub ofBits-same : (w : ℕ) (f g : ℕ → ℕ) → ((i : ℕ) → i < w → f i ≡ g i) → ofBits w f ≡ ofBits w g
+unfolding ofBits
+ofBits-same zero f g e = refl
+ofBits-same (suc w) f g e =
+    let h = ofBits-same w (λ i. f (suc i)) (λ i. g (suc i)) (λ i l. e (suc i) (omega arith)) in
+    omega (arith, h, e 0 (omega arith))
+
 pub bit-ofBits : (w : ℕ) (f : ℕ → ℕ) (i : ℕ) → i < w → bit (ofBits w f) i ≡ f i % 2
 unfolding ofBits
 bit-ofBits zero f i l = absurd (not-suc-le-zero l)
@@ -192,6 +199,9 @@ ofBits-add a b f =
         ∙ bit-cat-high (ofBits b g) a (i - a) (ofBits-lt a f)
         ∙ bit-ofBits b g (i - a) (omega arith)
         ∙ ap (λ (j : ℕ). f j % 2) e
+
+pub ofBits-low : (a b : ℕ) (g : ℕ → ℕ) → ofBits (a + b) g % 2 ^ a ≡ ofBits a g
+ofBits-low a b g = ap (λ (n : ℕ). n % 2 ^ a) (ofBits-add a b g) ∙ low (ofBits b (λ i. g (a + i))) a (ofBits-lt a g)
 
 -- k ones
 pub bit-ones : (k i : ℕ) → i < k → bit (2 ^ k - 1) i ≡ 1

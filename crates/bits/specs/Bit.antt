@@ -10,6 +10,10 @@ use lib.ListN.{length, getD}
 unfoldable pub bit : ℕ → ℕ → ℕ
 bit x i = x / 2 ^ i % 2
 
+-- byte t of the word x
+abbrev pub byteAt : ℕ → ℕ → ℕ
+byteAt x t = x / 2 ^ (8 * t) % 2 ^ 8
+
 -- the word of w bits whose bit i is f i
 unfoldable pub ofBits : ℕ → (ℕ → ℕ) → ℕ
 ofBits zero f = zero
@@ -24,6 +28,10 @@ upTo (suc n) f = upTo n f ++ (f n ∷ [])
 unfoldable pub rank : ℕ → ℕ → ℕ
 rank m zero = zero
 rank m (suc p) = rank m p + bit m p
+
+-- "notes for every line how many ones lie below it" (paper 02, Req 04): one count for each of 64 bits, above those that were counted before
+unfoldable pub countsBelow : ℕ → ℕ → List ℕ
+countsBelow m start = upTo 64 (λ p. start + rank m p)
 
 -- the places below w, from the right, where the bit of m is v
 unfoldable pub places : ℕ → ℕ → ℕ → List ℕ

@@ -1,7 +1,9 @@
 // What every call of the unit shares: accepted widths, the refusal numbers, the count of ones (paper 01, 'What the unit covers' and
-// 'Calls turned back').
+// 'Calls turned back'), and the counts below each bit (paper 02, Req 04).
 ghost use mathlib.Core.Path.{_≡_};
-ghost use Rattle.bits.specs.Bit.{rank};
+ghost use Prim.Native.Nat.{ℕ, _^_, _<_, _≤_};
+ghost use lib.Seq.{sets};
+ghost use Rattle.bits.specs.Bit.{byteAt, upTo, rank, countsBelow};
 ghost use Rattle.bits.specs.Refusal.{logOf, fits};
 
 // The refusal numbers, paper 01, 'Calls turned back'. They are part of the interface; more may follow, none changes.
@@ -63,4 +65,53 @@ pub fn count(x: u64) -> u64
     ensures { λ r. ⌜ r ≡ rank x 64 ⌝ }
 {
     u64::count_ones(x) as u64
+}
+
+// internal: a byte. Byte k of the answer is the number of its ones below bit k: its lower seven bits, each in the byte above its own, are
+// added up from the right.
+fn counts_in(byte: u64) -> u64
+    requires { ⌜ byte < 2 ^ 8 ⌝ }
+    ensures { λ r. ⌜ (r < 2 ^ 59) × ((k : ℕ) → k < 8 → byteAt r k ≡ rank byte k) ⌝ }
+{
+    let ones = (((byte % 128) * 0x0002040810204081) & 0x0001010101010101) << 8;
+    let twos = ones + (ones << 8);
+    let fours = twos + (twos << 16);
+    fours + (fours << 32)
+}
+
+// internal: room for eight bytes from `first` on. There the bytes of the word, the lowest first.
+fn store_bytes(bytes: [u8; 64], first: usize, word: u64) -> [u8; 64]
+    requires { ⌜ first ≤ 56 ⌝ }
+    ensures { λ r. ⌜ r ≡ sets bytes first (upTo 8 (byteAt word)) ⌝ }
+{
+    let mut out = bytes;
+    let mut rest = word;
+    let mut at: usize = 0;
+    while at < 8 {
+        out[first + at] = (rest % 256) as u8;
+        rest = rest >> 8;
+        at += 1;
+    }
+    out
+}
+
+// internal: a start with which no count is above 255. One pass over the mask from bit 0 up: for each bit, `start` and the number of ones
+// below it.
+pub fn counts_below(mask: u64, start: u8) -> [u8; 64]
+    requires { ⌜ start < 192 ⌝ }
+    ensures { λ r. ⌜ r ≡ countsBelow mask start ⌝ }
+{
+    let mut counts = [0u8; 64];
+    let mut below = start as u64;
+    let mut first: usize = 0;
+    while first < 64 {
+        let byte = (mask >> first) % 256;
+        let inside = counts_in(byte);
+        let eight = below * 0x0101010101010101 + inside;
+        below += (inside >> 56) + (byte >> 7);
+        let noted = store_bytes(counts, first, eight);
+        counts = noted;
+        first += 8;
+    }
+    counts
 }

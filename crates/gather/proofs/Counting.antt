@@ -1,17 +1,16 @@
 -- One level of counting, over the size of the parts: from the counts of parts of s bits to those of twice as many, and the gaps of lower halves. And the
 -- counts of eight bytes added up. Assumes nothing.
-use mathlib.Core.Path.{_≡_, refl, sym, _∙_, ap}
-use Prim.Native.Nat.{ℕ, zero, suc, _+_, _-_, _*_, _/_, _%_, _^_, _<_, _≤_}
+use mathlib.Core.Path.{_≡_, sym, _∙_, ap}
+use Prim.Native.Nat.{ℕ, _+_, _-_, _*_, _/_, _%_, _^_, _<_, _≤_}
 use native.Mathlib.Omega.{arith}
 use native.Mathlib.Nat.{mul-div-cancel}
 use lib.Bits.{bitAnd, and-mask}
 use lib.Pow.{pow-pos, pow-add, low, ones-lt, pow-mono}
 use lib.Arith.{digits-lt}
-use Rattle.bits.specs.Bit.{bit, rank}
-use Rattle.bits.proofs.Rank.{rank-le}
+use Rattle.bits.specs.Bit.{rank}
+use Rattle.bits.proofs.Rank.{rank-le, rank-add}
 use Rattle.bits.proofs.Word.{bit-zero, below-pow}
 use Rattle.gather.specs.Parts.{inParts, countsOf, gapsOf}
-use Rattle.gather.proofs.Halves.{rank-add}
 use Rattle.gather.proofs.Parts.{everyPart, parts-ext, parts-every, parts-add, parts-mul, parts-and, parts-pairs, parts-first}
 
 -- the counts of lower halves alone

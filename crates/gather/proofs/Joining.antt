@@ -1,5 +1,5 @@
 -- From bytes to the word: gathered bytes are joined from the last, and to each byte are dealt the bits that it takes. Assumes nothing.
-use mathlib.Core.Path.{_≡_, refl, sym, _∙_, ap, ap₂}
+use mathlib.Core.Path.{_≡_, sym, _∙_, ap, ap₂}
 use Prim.Native.Nat.{ℕ, zero, suc, _+_, _-_, _*_, _/_, _%_, _^_, _<_, _≤_}
 use native.Mathlib.Omega.{arith}
 use native.Mathlib.Nat.{mod-eq-of-lt, mod-lt, mul-le-mul-left, lt-of-mul-lt-mul-right, div-one}
@@ -7,11 +7,11 @@ use lib.Arith.{digits-lt}
 use lib.Bits.{bitOr, or-shifted, or-shifted-r}
 use lib.Pow.{pow-add, pow-pos, shr-shr, shl-exact, high, low}
 use Rattle.bits.specs.Bit.{rank}
-use Rattle.bits.proofs.Rank.{rank-le}
+use Rattle.bits.proofs.Rank.{rank-le, rank-add}
 use Rattle.gather.specs.Gather.{gatherOf, scatterOf}
 use Rattle.gather.specs.Parts.{inParts, countsOf, gatherParts, scatterParts, dealt}
 use Rattle.gather.proofs.AnyWidth.{gather-count, gather-lt, scatter-lt}
-use Rattle.gather.proofs.Halves.{rank-add, gather-halves, scatter-halves}
+use Rattle.gather.proofs.Halves.{gather-halves, scatter-halves}
 use Rattle.gather.proofs.Parts.{Small, parts-drop}
 use Rattle.gather.proofs.Moving.{scatter-same}
 

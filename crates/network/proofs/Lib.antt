@@ -8,6 +8,8 @@ pub mod Table
 pub mod TableSteps
 pub mod NetworkAnswers
 pub mod StageBlocks
+pub mod Narrower
+pub mod Middles
 pub mod Filling
 pub mod CallRouting
 pub mod Six

@@ -238,13 +238,24 @@ module _ (w m : ℕ) where
     unfolding decodeAnswer
     decode-refused z = rw (← e, ne-eqb n 0 z)
 
-    pub decode-done : n ≡ 0 → {l : ℕ} {cs ds : List ℕ} → l ≡ logOf w → cs ≡ six (decodeOf l m) → ds ≡ six (reverse (take l cs))
-        → _≡_ {A = Decoded} (record { refusal = 0; butterfly = record { stages = cs }; inverse = record { stages = ds } }) (decodeAnswer w m)
-    unfolding decodeAnswer decodeInverseOf
-    decode-done z {l} q c d =
-        let t : take l (six (decodeOf l m)) ≡ decodeOf l m = take-at (decodeOf l m) (replicate (6 - length (decodeOf l m)) 0) l (length-decode l m) in
-        let inner : _≡_ {A = List ℕ} (six (reverse (take l (six (decodeOf l m))))) (six (reverse (decodeOf l m))) = ap (λ (xs : List ℕ). six (reverse xs)) t in
-        rw (← e, eq-eqb n 0 z)
-        (ap₂ (λ (a b : List ℕ). record { refusal = 0; butterfly = record { stages = a }; inverse = record { stages = b } })
-        (c ∙ ap (λ (k : ℕ). six (decodeOf k m)) q)
-        (d ∙ ap (λ (xs : List ℕ). six (reverse (take l xs))) c ∙ inner ∙ ap (λ (k : ℕ). six (reverse (decodeOf k m))) q))
+    pub decode-accepted : n ≡ 0 → accepted w ≡ true
+    unfolding decodeRefusal
+    decode-accepted z = not-false _ (none-applies (decodeConditions w m) (omega arith) (sym e ∙ z) .0)
+
+    pub decode-done : n ≡ 0 → {l : ℕ} {r : Decoded} → l ≡ logOf w
+        → r ≡ record { refusal = 0; butterfly = controls (decodeOf l m); inverse = controls (decodeInverseOf l m) } → r ≡ decodeAnswer w m
+    unfolding decodeAnswer
+    decode-done z {l} q d =
+        d
+        ∙ ap (λ (k : ℕ). record { refusal = 0; butterfly = controls (decodeOf k m); inverse = controls (decodeInverseOf k m) }) q
+        ∙ rw (← e, eq-eqb n 0 z)
+
+-- both networks' controls from the butterfly's
+pub both-decoded : (l m : ℕ) {cs ds : List ℕ} → cs ≡ six (decodeOf l m) → ds ≡ six (reverse (take l cs))
+    → _≡_ {A = Decoded} (record { refusal = 0; butterfly = record { stages = cs }; inverse = record { stages = ds } })
+    (record { refusal = 0; butterfly = controls (decodeOf l m); inverse = controls (decodeInverseOf l m) })
+unfolding decodeInverseOf
+both-decoded l m c d =
+    let t : take l (six (decodeOf l m)) ≡ decodeOf l m = take-at (decodeOf l m) (replicate (6 - length (decodeOf l m)) 0) l (length-decode l m) in
+    ap₂ (λ (a b : List ℕ). record { refusal = 0; butterfly = record { stages = a }; inverse = record { stages = b } }) c
+    (d ∙ ap (λ (xs : List ℕ). six (reverse (take l xs))) c ∙ ap (λ (xs : List ℕ). six (reverse xs)) t)

@@ -4,7 +4,6 @@ use mathlib.Core.Bool.{Bool, true, false, cond}
 use mathlib.Core.List.{List, [], _∷_, _++_, append-nil, reverse, reverse-cons}
 use Prim.Native.Nat.{ℕ, zero, suc, _+_, _-_, _*_, _%_, _^_, _<_, _≤_}
 use native.Mathlib.Omega.{arith}
-use native.Mathlib.Nat.{zero-add, suc-add}
 use lib.ListN.{length, take, drop, replicate, take-append-drop, length-replicate, length-reverse, length-append}
 use lib.Arith.{digits-lt}
 use lib.Pow.{pow-mono}
@@ -15,7 +14,7 @@ use Rattle.network.specs.Stage.{source, stage, travel, falling, rising}
 use Rattle.network.specs.Calls.{six}
 use Rattle.network.specs.Word.{swapsOf, swapsAt, exchangesOf, allPass, byIndex, preparedOf, distances, travelOf}
 use Rattle.network.proofs.Index.{placeAt, on-places, block-lt, source-at}
-use Rattle.network.proofs.Travel.{Fits, AllFit, bit-stage, stage-lt, travel-lt, travel-back, travel-below, travel-wider, falling-fit, rising-fit, distances-fit, length-falling, length-rising, length-distances, reverse-rising}
+use Rattle.network.proofs.Travel.{Fits, AllFit, bit-stage, stage-lt, travel-lt, travel-back, travel-below, travel-wider, falling-fit, rising-fit, distances-fit, length-falling, drop-falling, length-rising, length-distances, reverse-rising}
 use Rattle.network.proofs.PairsExchanged.{exchange-stage}
 use Rattle.network.proofs.Filling.{length-reversed}
 
@@ -69,11 +68,6 @@ travel-own w (d ∷ ds) [] es e x = absurd (omega arith)
 travel-own w (d ∷ ds) (c ∷ cs) es e x = travel-own w ds cs es (omega arith) (stage w d c x)
 
 -- the lists of distances
-
-drop-falling : (k L : ℕ) → drop k (falling (k + L)) ≡ falling L
-unfolding falling
-drop-falling zero L = ap falling (zero-add L)
-drop-falling (suc k) L = ap (λ (n : ℕ). drop (suc k) (falling n)) (suc-add k L) ∙ drop-falling k L
 
 take-fit : (w : ℕ) (ds : List ℕ) (k : ℕ) → AllFit w ds → AllFit w (take k ds)
 unfolding AllFit

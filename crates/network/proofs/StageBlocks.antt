@@ -1,17 +1,18 @@
 -- What the decoder's code computes: turned zeros as a window on ones, the control bits of a stage block by block, the stages of a width.
 -- Assumes nothing.
 use mathlib.Core.Path.{_≡_, sym, _∙_, ap}
+use mathlib.Core.List.{List}
 use Prim.Native.Nat.{ℕ, zero, suc, _+_, _-_, _*_, _/_, _%_, _^_, _<_, _≤_}
 use native.Mathlib.Omega.{arith}
 use native.Mathlib.Decide.{decLt}
-use native.Mathlib.Nat.{mod-lt, mod-eq-of-lt, div-add-mod', add-mul-div-right, mul-le-mul-left, mul-le-mul-right, pow-succ', one-mul}
+use native.Mathlib.Nat.{mod-lt, mod-eq-of-lt, div-add-mod', add-mul-div-right, mul-le-mul-left, mul-le-mul-right, div-lt-iff-lt-mul, pow-succ', one-mul, zero-add}
 use lib.Arith.{digits-div, digits-mod}
 use lib.ListN.{getD}
 use lib.Bits.{bitAnd, and-le-r}
 use lib.Pow.{pow-pos, pow-mono, pow-add, pow-lt, shl-exact, ones-lt}
-use Rattle.bits.specs.Bit.{bit, ofBits, rank}
-use Rattle.bits.proofs.Word.{bit-lt, bit-shr, bit-shl-below, bit-shl-from, bit-and, bit-mod-two, bit-ofBits, bit-ones, bit-ones-above, ofBits-add, ofBits-lt, ext}
-use Rattle.bits.proofs.Rank.{rank-rest}
+use Rattle.bits.specs.Bit.{bit, ofBits, rank, countsBelow}
+use Rattle.bits.proofs.Word.{bit-lt, bit-shr, bit-shl-below, bit-shl-from, bit-and, bit-mod-two, bit-ofBits, bit-ones, bit-ones-above, ofBits-same, ofBits-add, ofBits-lt, ext}
+use Rattle.bits.proofs.ByteCounts.{count-below}
 use Rattle.bits.proofs.UpTo.{map-at}
 use Rattle.network.specs.Stage.{falling}
 use Rattle.network.specs.Decoder.{turn, turned, controlAt, decodedStage, decodeOf}
@@ -73,39 +74,6 @@ module _ {d : ℕ} (pos : 0 < d) (c : ℕ) where
           ∙ bit-ones-above d (d + t - c % (2 * d)) (omega arith)
           ∙ omega (arith, quotient (c % (2 * d) + (d - 1 - t)) 0 (omega arith) (omega arith))
 
--- the control bits of one block more
-
-module _ (d m j : ℕ) (pos : 0 < d) (small : d * (j + 1) ≤ 32) where
-  block-bits : ofBits d (λ t. controlAt d m (d * j + t)) ≡ turned d (rank m (2 * j * d + d))
-  unfolding controlAt
-  block-bits =
-      ext d (ofBits-lt d (λ t. controlAt d m (d * j + t))) (turned-lt pos (rank m (2 * j * d + d)))
-      (λ t h. bit-ofBits d (λ i. controlAt d m (d * j + i)) t h ∙ at t h)
-    where
-      at : (t : ℕ) → t < d → controlAt d m (d * j + t) % 2 ≡ bit (turned d (rank m (2 * j * d + d))) t
-      at t h =
-          let e : d * j + t ≡ j * d + t = omega arith in
-          rw (e, digits-div j h, digits-mod j h) (bit-mod-two (turned d (rank m (2 * j * d + d))) t)
-
-  pub place-lt : 2 * j * d + d < 64
-  place-lt = omega arith
-
-  pub stage-turn : {out k v : ℕ} → out ≡ ofBits (d * j) (controlAt d m) → k ≡ rank (m % (1 * 2 ^ (2 * j * d + d) % 2 ^ 64)) 64 → v ≡ turned d k
-      → out + v * 2 ^ (d * j) % 2 ^ 64 ≡ ofBits (d * (j + 1)) (controlAt d m)
-  stage-turn {out} {k} {v} o r t =
-      let p : 1 * 2 ^ (2 * j * d + d) % 2 ^ 64 ≡ 2 ^ (2 * j * d + d) =
-      shl-one (2 * j * d + d) place-lt
-      in
-      let c : k ≡ rank m (2 * j * d + d) = r ∙ ap (λ (n : ℕ). rank (m % n) 64) p ∙ rank-rest m (2 * j * d + d) (omega (arith, place-lt)) in
-      let w : v ≡ ofBits d (λ i. controlAt d m (d * j + i)) = t ∙ ap (turned d) c ∙ sym block-bits in
-      let b : d + d * j ≤ 64 = omega arith in
-      let q : v * 2 ^ (d * j) % 2 ^ 64 ≡ v * 2 ^ (d * j) = shl-exact {a = v} d (d * j) 64 (omega (arith, w, ofBits-lt d (λ i. controlAt d m (d * j + i)))) b in
-      let s : d * (j + 1) ≡ d * j + d = omega arith in
-      rw (q, s, ofBits-add (d * j) d (controlAt d m), o, w) (omega arith)
-
-  pub stage-fits : ofBits (d * (j + 1)) (controlAt d m) < 2 ^ 64
-  stage-fits = omega (arith, ofBits-lt (d * (j + 1)) (controlAt d m), pow-mono small)
-
 -- what keeps the code's numbers small
 
 pub block-small : (d j n : ℕ) → 0 < d → d * n ≤ 32 → j < n → (d * (j + 1) ≤ 32) × (j < 32) × (d ≤ 32)
@@ -113,6 +81,50 @@ block-small d j n pos h l =
     let a : d * (j + 1) ≤ d * n = mul-le-mul-left d (omega arith) in
     let b : 1 * j ≤ d * j = mul-le-mul-right j pos in
     (omega arith, omega arith, omega arith)
+
+-- the control bits of one block more, by the counts below each place
+
+abbrev pub controlBy : ℕ → List ℕ → ℕ → ℕ
+controlBy d cs s = bit (turned d (getD cs (2 * (s / d) * d + d) 0)) (s % d)
+
+module _ (d : ℕ) (cs : List ℕ) (j : ℕ) (pos : 0 < d) (small : d * (j + 1) ≤ 32) where
+  abbrev block : ℕ
+  block = turned d (getD cs (2 * j * d + d) 0)
+
+  block-bits : ofBits d (λ t. controlBy d cs (d * j + t)) ≡ block
+  block-bits =
+      ext d (ofBits-lt d (λ t. controlBy d cs (d * j + t))) (turned-lt pos (getD cs (2 * j * d + d) 0))
+      (λ t h. bit-ofBits d (λ i. controlBy d cs (d * j + i)) t h ∙ at t h)
+    where
+      at : (t : ℕ) → t < d → controlBy d cs (d * j + t) % 2 ≡ bit block t
+      at t h =
+          let e : d * j + t ≡ j * d + t = omega arith in
+          rw (e, digits-div j h, digits-mod j h) (bit-mod-two block t)
+
+  pub stage-turn : {out v : ℕ} → out ≡ ofBits (d * j) (controlBy d cs) → v ≡ block
+      → out + v * 2 ^ (d * j) % 2 ^ 64 ≡ ofBits (d * (j + 1)) (controlBy d cs)
+  stage-turn {out} {v} o t =
+      let w : v ≡ ofBits d (λ i. controlBy d cs (d * j + i)) = t ∙ sym block-bits in
+      let b : d + d * j ≤ 64 = omega arith in
+      let q : v * 2 ^ (d * j) % 2 ^ 64 ≡ v * 2 ^ (d * j) = shl-exact {a = v} d (d * j) 64 (omega (arith, w, ofBits-lt d (λ i. controlBy d cs (d * j + i)))) b in
+      let s : d * (j + 1) ≡ d * j + d = omega arith in
+      rw (q, s, ofBits-add (d * j) d (controlBy d cs), o, w) (omega arith)
+
+  pub stage-fits : ofBits (d * (j + 1)) (controlBy d cs) < 2 ^ 64
+  stage-fits = omega (arith, ofBits-lt (d * (j + 1)) (controlBy d cs), pow-mono small)
+
+-- the counts of a mask make its controls
+pub controls-counted : (d n m : ℕ) → 0 < d → d * n ≤ 32 → {cs : List ℕ} → cs ≡ countsBelow m 0
+    → ofBits (d * n) (controlBy d cs) ≡ ofBits (d * n) (controlAt d m)
+unfolding controlAt
+controls-counted d n m pos small {cs} e = ofBits-same (d * n) (controlBy d cs) (controlAt d m) (λ s h. ap (λ (c : ℕ). bit (turned d c) (s % d)) (counted s h))
+  where
+    counted : (s : ℕ) → s < d * n → getD cs (2 * (s / d) * d + d) 0 ≡ rank m (2 * (s / d) * d + d)
+    counted s h =
+        let p = 2 * (s / d) * d + d in
+        let inside : s / d < n = div-lt-iff-lt-mul pos .1 (omega arith) in
+        let z = block-small d (s / d) n pos small inside in
+        ap (λ (l : List ℕ). getD l p 0) e ∙ count-below m 0 p (omega (arith, z)) ∙ zero-add (rank m p)
 
 -- the stages of the decoder: distance and number of blocks of stage number i, by the table
 

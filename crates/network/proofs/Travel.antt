@@ -5,8 +5,8 @@ use mathlib.Core.List.{List, [], _∷_, _++_, reverse, reverse-cons, reverse-rev
 use Prim.Native.Nat.{ℕ, zero, suc, _+_, _-_, _*_, _%_, _^_, _<_, _≤_}
 use native.Mathlib.Omega.{arith}
 use native.Mathlib.Decide.{decLt}
-use native.Mathlib.Nat.{mod-lt, pow-succ'}
-use lib.ListN.{length, length-reverse}
+use native.Mathlib.Nat.{mod-lt, pow-succ', zero-add, suc-add}
+use lib.ListN.{length, drop, length-reverse}
 use lib.Pow.{pow-pos, pow-mono, pow-add}
 use Rattle.bits.specs.Bit.{bit}
 use Rattle.bits.proofs.Word.{bit-mod-two, bit-mod, bit-above, bit-ofBits, ofBits-lt, ext}
@@ -140,6 +140,11 @@ pub length-falling : (n : ℕ) → length (falling n) ≡ n
 unfolding falling
 length-falling zero = refl
 length-falling (suc n) = ap suc (length-falling n)
+
+pub drop-falling : (k L : ℕ) → drop k (falling (k + L)) ≡ falling L
+unfolding falling
+drop-falling zero L = ap falling (zero-add L)
+drop-falling (suc k) L = ap (λ (n : ℕ). drop (suc k) (falling n)) (suc-add k L) ∙ drop-falling k L
 
 pub length-rising : (n : ℕ) → length (rising n) ≡ n
 length-rising n = ap length (sym (reverse-falling n)) ∙ length-reverse (falling n) ∙ length-falling n

@@ -1,16 +1,15 @@
 // Stages, both networks and the decoder from a mask to their controls (paper 01, 'Columns' and 'Decoder'; demand 3, its first half).
 ghost use mathlib.Core.Path.{_≡_};
-ghost use Prim.Native.Nat.{_+_, _-_, _*_, _^_, _≤_, _<_};
+ghost use Prim.Native.Nat.{ℕ, _+_, _-_, _*_, _^_, _≤_, _<_};
 ghost use mathlib.Core.Bool.{cond, true, false};
 ghost use mathlib.Core.List.{reverse};
-ghost use lib.Dec.{eqb};
-ghost use lib.ListN.{getD, take};
-ghost use Rattle.bits.specs.Bit.{ofBits};
+ghost use lib.ListN.{length, getD, take};
+ghost use Rattle.bits.specs.Bit.{ofBits, countsBelow};
 ghost use Rattle.bits.specs.Refusal.{logOf, accepted};
 ghost use Rattle.network.specs.Stage.{falling, rising, butterflyOf, inverseOf};
 ghost use Rattle.network.specs.Word.{spreadOf, swapsOf, swapsAt, exchangeOf, exchangesOf, byIndex, distances, travelOf};
 ghost use Rattle.network.specs.Decoder.{turned, controlAt, decodeOf, decodeInverseOf};
-ghost use Rattle.network.specs.Calls.{usedBits, controlsFit, networkRefusal, networkAnswer, prepareAnswer, six, decodeRefusal, decodeAnswer};
+ghost use Rattle.network.specs.Calls.{usedBits, controlsFit, networkRefusal, networkAnswer, prepareAnswer, six, controls, decodeRefusal, decodeAnswer};
 
 // The control bits of one network: six stages in the direction of travel (paper 01: settings). One passes, zero swaps.
 #[repr(C)]
@@ -384,42 +383,59 @@ pub fn prepare_inverse(width: u32, controls: Controls) -> Prepared
 }
 
 // internal: a distance of 1 to 32. As many zeros turned left `count` steps: as many ones come in at the right and go out at the left.
-fn turned_bits(distance: u64, count: u64) -> u64
+fn turned_bits(distance: u64, count: u8) -> u64
     requires { ⌜ (0 < distance) × (distance ≤ 32) ⌝ }
     ensures { λ r. ⌜ r ≡ turned distance count ⌝ }
 {
     let ones = (1 << distance) - 1;
-    let steps = count % (2 * distance);
+    let steps = (count as u64) % (2 * distance);
     ((ones << steps) >> distance) & ones
 }
 
-// internal: at most 32 control bits, `distance` for each block. The control bits of one stage.
-fn stage_bits(distance: u64, blocks: u64, mask: u64) -> u64
-    requires { ⌜ (0 < distance) × (distance * blocks ≤ 32) ⌝ }
-    ensures { λ r. ⌜ r ≡ ofBits (distance * blocks) (controlAt distance mask) ⌝ }
+// internal: the counts below 64 bits, and at most 32 control bits, `distance` for each block. The control bits of one stage: those of a
+// block are turned by the count below the middle of its pairs.
+fn stage_bits(distance: u64, blocks: u64, counts: &[u8; 64]) -> u64
+    requires { ⌜ (0 < distance) × (distance * blocks ≤ 32) × (length (now counts) ≡ 64) ⌝ }
+    ensures { λ r. ⌜ ((m : ℕ) → now (counts .entry) ≡ countsBelow m 0 → r ≡ ofBits (distance * blocks) (controlAt distance m)) ⌝ }
 {
     let mut out: u64 = 0;
     let mut block: u64 = 0;
     while block < blocks {
-        let below = mask % (1 << (2 * block * distance + distance));
-        out += turned_bits(distance, bits::count(below)) << (distance * block);
+        let count = counts[(2 * block * distance + distance) as usize];
+        out += turned_bits(distance, count) << (distance * block);
         block += 1;
     }
     out
 }
 
-// internal: a logarithm of at most 6. The butterfly's controls for a mask.
-fn decode_stages(log: usize, mask: u64) -> [u32; 6]
-    requires { ⌜ log ≤ 6 ⌝ }
-    ensures { λ r. ⌜ r ≡ six (decodeOf log mask) ⌝ }
+// internal: the butterfly's controls for a mask at width 64, all of them from the counts of one pass
+pub fn decode_64(mask: u64) -> [u32; 6]
+    ensures { λ r. ⌜ r ≡ decodeOf 6 mask ⌝ }
 {
+    let counts = bits::counts_below(mask, 0);
     let mut stages = [0u32; 6];
     let mut at: usize = 0;
-    while at < log {
-        stages[at] = stage_bits(1 << (log - 1 - at), 1 << at, mask) as u32;
+    while at < 6 {
+        stages[at] = stage_bits(1 << (5 - at), 1 << at, &counts) as u32;
         at += 1;
     }
     stages
+}
+
+// internal: a logarithm of 1 to 6, and the butterfly's controls for a mask at width 64. Those of the width: the last stages, and of each the
+// bits in use.
+fn narrowed(log: usize, stages: [u32; 6]) -> [u32; 6]
+    requires { ⌜ (0 < log) × (log ≤ 6) ⌝ }
+    ensures { λ r. ⌜ ((m : ℕ) → stages ≡ decodeOf 6 m → r ≡ six (decodeOf log m)) ⌝ }
+{
+    let used = 1 << (1u64 << (log - 1));
+    let mut out = [0u32; 6];
+    let mut at: usize = 0;
+    while at < log {
+        out[at] = ((stages[6 - log + at] as u64) % used) as u32;
+        at += 1;
+    }
+    out
 }
 
 // internal: a logarithm of at most 6. The stages in use in reversed order.
@@ -434,13 +450,6 @@ fn reversed(log: usize, stages: [u32; 6]) -> [u32; 6]
         at += 1;
     }
     out
-}
-
-// internal: the butterfly's controls for a mask at width 64
-pub fn decode_64(mask: u64) -> [u32; 6]
-    ensures { λ r. ⌜ r ≡ decodeOf 6 mask ⌝ }
-{
-    decode_stages(6, mask)
 }
 
 // internal: the inverse's controls for a mask at width 64
@@ -463,7 +472,24 @@ fn decode_refusal(width: u32, mask: u64) -> u8
     bits::CARRIED_OUT
 }
 
-// The controls of both networks that route by the mask: the butterfly scatters, the inverse gathers.
+// internal: a logarithm of 1 to 6, and the butterfly's controls for a mask at width 64. The answer at the width.
+fn both_networks(log: usize, wide: [u32; 6]) -> Decoded
+    requires { ⌜ (0 < log) × (log ≤ 6) ⌝ }
+    ensures { λ r. ⌜ ((m : ℕ) → wide ≡ decodeOf 6 m
+        → r ≡ record { refusal = 0; butterfly = controls (decodeOf log m); inverse = controls (decodeInverseOf log m) }) ⌝ }
+{
+    let stages = narrowed(log, wide);
+    Decoded {
+        refusal: 0,
+        butterfly: Controls { stages },
+        inverse: Controls {
+            stages: reversed(log, stages),
+        },
+    }
+}
+
+// The controls of both networks that route by the mask: the butterfly scatters, the inverse gathers. By each width, so that the compiler
+// knows the stages in use.
 pub fn decode(width: u32, mask: u64) -> Decoded
     ensures { λ r. ⌜ r ≡ decodeAnswer width mask ⌝ }
 {
@@ -475,13 +501,15 @@ pub fn decode(width: u32, mask: u64) -> Decoded
             inverse: Controls { stages: [0u32; 6] },
         };
     }
-    let log = bits::log_of(width) as usize;
-    let stages = decode_stages(log, mask);
-    Decoded {
-        refusal: 0,
-        butterfly: Controls { stages },
-        inverse: Controls {
-            stages: reversed(log, stages),
-        },
+    let wide = decode_64(mask);
+    if width == 8 {
+        return both_networks(3, wide);
     }
+    if width == 16 {
+        return both_networks(4, wide);
+    }
+    if width == 32 {
+        return both_networks(5, wide);
+    }
+    both_networks(6, wide)
 }

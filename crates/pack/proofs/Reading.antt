@@ -7,7 +7,7 @@ use native.Mathlib.Omega.{arith}
 use lib.Bits.{bitOr}
 use lib.ListN.{getD}
 use Rattle.bits.specs.Bit.{bit, rank, ofBits}
-use Rattle.bits.proofs.Word.{bit-mod, bit-mod-two, bit-cases, bit-ofBits, ofBits-lt, ext}
+use Rattle.bits.proofs.Word.{bit-mod, bit-mod-two, bit-cases, bit-ofBits, ofBits-lt, ofBits-same, ext}
 use Rattle.bits.proofs.Rank.{rank-lt}
 use Rattle.gather.specs.Gather.{scatterOf}
 use Rattle.gather.proofs.AnyWidth.{scatter-lt}
@@ -15,7 +15,7 @@ use Rattle.gather.proofs.Theorems.{bit-scatter}
 use Rattle.pack.specs.declared.Cursor.{Cursor}
 use Rattle.pack.specs.Fields.{sizeOf, packedBit, fieldAt, scatteredAt}
 use Rattle.pack.specs.Cursor.{Awaits, Reads}
-use Rattle.pack.proofs.Stream.{ofBits-same, upper, join-bits, shr-two}
+use Rattle.pack.proofs.Stream.{upper, join-bits, shr-two}
 
 module _ (ps : List ℕ) where
   packed-mod-two : (n : ℕ) → packedBit ps n % 2 ≡ packedBit ps n

@@ -13,7 +13,7 @@ use lib.Seq.{ext-getD, getD-take, take-at, drop-at, length-take-le}
 use borrow.Author.Tests.{le-ltb}
 use Rattle.bits.specs.Bit.{bit, upTo}
 use Rattle.bits.specs.Refusal.{lowest}
-use Rattle.bits.proofs.Word.{ofBits-lt, ext}
+use Rattle.bits.proofs.Word.{ofBits-lt, ofBits-same, ext}
 use Rattle.bits.proofs.Places.{pick-marked-lt}
 use Rattle.bits.proofs.UpTo.{length-upTo, getD-upTo, upTo-same, map-at}
 use Rattle.gather.specs.Gather.{gatherOf, scatterOf}
@@ -21,7 +21,6 @@ use Rattle.gather.proofs.Theorems.{scatter-gather, gather-scatter}
 use Rattle.pack.specs.Fields.{overwritten, sizeOf, needed, cut, fieldsOf, streamOf, wordAt, packInto, packedBit, spareBits, fieldAt, scatteredAt, unpackInto}
 use Rattle.pack.specs.Calls.{fieldsRefusal, unpackRefusal, fieldsAnswer, leftOf, packAnswer, packedOut, unpackAnswer, unpackedOut}
 use Rattle.pack.proofs.FilledLists.{length-overwritten}
-use Rattle.pack.proofs.Stream.{ofBits-same}
 use Rattle.pack.proofs.Reading.{bit-packed, word-bits}
 use Rattle.pack.proofs.SpareWords.{spare-bit}
 use Rattle.pack.proofs.Turns.{stream-word, stream-end, next-field}

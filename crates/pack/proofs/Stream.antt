@@ -8,7 +8,7 @@ use lib.Bits.{bitOr, or-shifted-r}
 use lib.ListN.{length, set}
 use lib.Pow.{pow-pos, pow-mono, shr-shr, high, low, mod-pow-add}
 use Rattle.bits.specs.Bit.{ofBits}
-use Rattle.bits.proofs.Word.{ofBits-lt, ofBits-add}
+use Rattle.bits.proofs.Word.{ofBits-lt, ofBits-same, ofBits-add, ofBits-low}
 use Rattle.pack.specs.declared.Cursor.{Cursor}
 use Rattle.pack.specs.Fields.{wordAt}
 use Rattle.pack.specs.Cursor.{Holds}
@@ -16,22 +16,12 @@ use Rattle.pack.proofs.FilledLists.{fill-next}
 
 -- words end to end
 
-pub ofBits-same : (w : ℕ) (f g : ℕ → ℕ) → ((i : ℕ) → i < w → f i ≡ g i) → ofBits w f ≡ ofBits w g
-unfolding ofBits
-ofBits-same zero f g e = refl
-ofBits-same (suc w) f g e =
-    let h = ofBits-same w (λ i. f (suc i)) (λ i. g (suc i)) (λ i l. e (suc i) (omega arith)) in
-    omega (arith, h, e 0 (omega arith))
-
 pub ofBits-none : (w : ℕ) (f : ℕ → ℕ) → ((i : ℕ) → i < w → f i ≡ 0) → ofBits w f ≡ 0
 unfolding ofBits
 ofBits-none zero f z = refl
 ofBits-none (suc w) f z =
     let h = ofBits-none w (λ i. f (suc i)) (λ i l. z (suc i) (omega arith)) in
     omega (arith, h, z 0 (omega arith))
-
-ofBits-low : (a b : ℕ) (g : ℕ → ℕ) → ofBits (a + b) g % 2 ^ a ≡ ofBits a g
-ofBits-low a b g = ap (λ (n : ℕ). n % 2 ^ a) (ofBits-add a b g) ∙ low (ofBits b (λ i. g (a + i))) a (ofBits-lt a g)
 
 ofBits-fits : (a : ℕ) (g : ℕ → ℕ) → a ≤ 64 → ofBits a g % 2 ^ 64 ≡ ofBits a g
 ofBits-fits a g h = mod-eq-of-lt (omega (arith, ofBits-lt a g, pow-mono h))

@@ -6,7 +6,7 @@ use mathlib.Core.Bool.{Bool, cond, _&&_, _||_}
 use mathlib.Core.List.{List, [], _∷_}
 use lib.Dec.{eqb, ltb}
 use lib.ListN.{getD, set}
-use Rattle.bits.specs.Bit.{bit, ofBits}
+use Rattle.bits.specs.Bit.{bit, byteAt, ofBits}
 use Rattle.planes.specs.declared.Round.{Round}
 use Rattle.planes.specs.Steps.{Step, keptPlace, keepHalves, mergeHalves, resultOf, stepOn, mirrored}
 
@@ -20,9 +20,6 @@ fillSteps b n [] ws = ws
 fillSteps b n (s ∷ ss) ws = fillSteps b (suc n) ss (set ws n (resultBy b s ws))
 
 -- the step of byte t
-abbrev pub byteAt : ℕ → ℕ → ℕ
-byteAt x t = x / 2 ^ (8 * t) % 2 ^ 8
-
 abbrev pub stepAt : Round → ℕ → Step
 stepAt r t = stepOn (byteAt (getD (r .sources) 0 0) t) (byteAt (getD (r .sources) 1 0) t) (byteAt (getD (r .fields) 0 0) t) (byteAt (getD (r .fields) 1 0) t)
 

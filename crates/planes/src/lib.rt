@@ -4,10 +4,11 @@ ghost use mathlib.Core.Bool.{true};
 ghost use mathlib.Core.List.{_++_};
 ghost use Prim.Native.Nat.{_+_, _*_, _/_, _%_, _^_, _<_};
 ghost use lib.ListN.{replicate};
+ghost use Rattle.bits.specs.Bit.{byteAt};
 ghost use Rattle.network.specs.Word.{pairs, spreadOf};
 ghost use Rattle.planes.specs.Planes.{planesOf, wordsOfPlanes};
 ghost use Rattle.planes.specs.Steps.{keepHalves, mergeHalves, packingSteps, mergingSteps, afterSteps, lastEight};
-ghost use Rattle.planes.specs.Rounds.{resultBy, fillSteps, byteAt, stepAt, roundSteps, roundAt, isWidth, isStep, IsHalf, keptHalves, byTurns, crossedOf};
+ghost use Rattle.planes.specs.Rounds.{resultBy, fillSteps, stepAt, roundSteps, roundAt, isWidth, isStep, IsHalf, keptHalves, byTurns, crossedOf};
 
 // Eight planes, or the eight words of sixty-four bytes.
 #[repr(C)]

@@ -15,6 +15,7 @@
 
 mod bmi2;
 mod contest;
+mod decoding;
 mod growth;
 mod masks;
 mod networks;
@@ -42,7 +43,7 @@ const CONTESTS: [Bench; 17] = [
     ("prepare_inverse", networks::prepare_inverse),
     ("butterfly_prepared", networks::butterfly_prepared),
     ("inverse_prepared", networks::inverse_prepared),
-    ("decode", networks::decode),
+    ("decode", decoding::decode),
     ("gather", masks::gather),
     ("scatter", masks::scatter),
     ("group", masks::group),

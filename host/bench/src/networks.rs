@@ -1,5 +1,4 @@
-//! Both networks, preparing them, and the decoder at width 64; the networks below
-//! it, too.
+//! Both networks and preparing them, at width 64; the networks below it, too.
 
 use crate::contest::Contest;
 use crate::WIDTH;
@@ -7,8 +6,8 @@ use conformance::controls::{stages, Controls};
 use conformance::low_ones;
 use conformance::samples::Random;
 use std::fmt::Debug;
-use tigbayon::{tb_butterfly, tb_butterfly_prepared, tb_decode, tb_inverse, tb_inverse_prepared};
-use tigbayon::{tb_prepare_butterfly, tb_prepare_inverse, TbCarried, TbControls2, TbPrepared};
+use tigbayon::{tb_butterfly, tb_butterfly_prepared, tb_inverse, tb_inverse_prepared};
+use tigbayon::{tb_prepare_butterfly, tb_prepare_inverse, TbCarried, TbPrepared};
 
 /// The widths below that of the contests.
 const NARROW: [u32; 3] = [8, 16, 32];
@@ -66,17 +65,6 @@ pub fn butterfly_prepared(name: &str) {
 /// The inverse, prepared before, beside delta swaps.
 pub fn inverse_prepared(name: &str) {
     prepared::<true>(name, tb_prepare_inverse, tb_inverse_prepared);
-}
-
-/// The decoder beside the same algorithm.
-pub fn decode(name: &str) {
-    Contest::of(Random::word, |&mask| tb_decode(WIDTH, mask))
-        .peer("the same algorithm", |&mask| {
-            decode_in_rust(turned_by_cases, mask)
-        })
-        .within(2.0)
-        .peer("the same, turning without a branch", |&mask| decoded(mask))
-        .print(name);
 }
 
 /// Random controls, also as masks of the pairs to swap, and a word.
@@ -219,47 +207,4 @@ pub fn delta_swaps<const RISING: bool>(swaps: &[u64; STAGES], word: u64) -> u64 
         let differ = (word ^ word >> distance) & swaps[STAGES - 1 - log];
         word ^ differ ^ differ << distance
     })
-}
-
-/// Algorithm 1, as its fastest peer here.
-pub fn decoded(mask: u64) -> TbControls2 {
-    decode_in_rust(turned_by_shift, mask)
-}
-
-/// Algorithm 1, given how to turn zeros.
-fn decode_in_rust(turned_zeros: impl Fn(u32, u32) -> u64, mask: u64) -> TbControls2 {
-    let mut butterfly = [0; STAGES];
-    for (i, stage) in butterfly.iter_mut().enumerate() {
-        let distance = WIDTH >> (i + 1);
-        for j in 0..1 << i {
-            let below = (1 << (2 * j * distance + distance)) - 1;
-            let count = (mask & below).count_ones();
-            *stage |= (turned_zeros(distance, count) as u32) << (j * distance);
-        }
-    }
-    let mut inverse = butterfly;
-    inverse.reverse();
-    TbControls2 {
-        refusal: 0,
-        butterfly,
-        inverse,
-    }
-}
-
-/// So many zeros turned left these steps: ones come in, then zeros again.
-fn turned_by_cases(zeros: u32, steps: u32) -> u64 {
-    let steps = steps % (2 * zeros);
-    if steps <= zeros {
-        (1 << steps) - 1
-    } else {
-        (1 << zeros) - (1 << (steps - zeros))
-    }
-}
-
-/// The same: a run of as many ones comes in at the right and goes out at the
-/// left.
-fn turned_by_shift(zeros: u32, steps: u32) -> u64 {
-    let ones = (1 << zeros) - 1;
-    let steps = steps & (2 * zeros - 1);
-    (ones << steps >> zeros) & ones
 }

@@ -2,8 +2,9 @@
 
 use crate::bmi2;
 use crate::contest::Contest;
+use crate::decoding::decoded;
 use crate::masks::{compress, compress_by, expand, expand_by, moves, Mask};
-use crate::networks::{decoded, delta_swaps, swaps_of};
+use crate::networks::{delta_swaps, swaps_of};
 use conformance::packing::{bits, clean_end, words_needed, LONGEST};
 use conformance::samples::{random_words, Random};
 use std::cell::RefCell;

@@ -3,7 +3,7 @@
 use conformance::call::{check_all, decode, MASK_CALLS, NETWORKS};
 use conformance::controls::all_of_width_8;
 use conformance::samples::{for_each, for_each_controls, Random};
-use conformance::WIDTHS;
+use conformance::{low_ones, WIDTHS};
 
 #[test]
 fn every_mask_and_word_of_width_8() {
@@ -72,5 +72,18 @@ fn decode_of_samples_of_widths_32_and_64() {
             decode(width, one ^ other);
         });
         assert!(count >= 100_000);
+    }
+}
+
+#[test]
+fn decode_of_every_value_of_every_byte_between_zeros_and_between_ones() {
+    for width in [32, 64] {
+        for place in (0..width).step_by(8) {
+            for value in 0..=0xFF {
+                let zeros = value << place;
+                decode(width, zeros);
+                decode(width, zeros | low_ones(width) & !(0xFF << place));
+            }
+        }
     }
 }

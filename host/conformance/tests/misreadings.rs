@@ -9,6 +9,8 @@ use conformance::packing::{clean_end, PACK, PACKING_CALLS, UNPACK};
 use conformance::planes::{Words, FROM_PLANES, TO_PLANES};
 use conformance::samples::{any_eight, for_each, Random};
 use conformance::{low_ones, WIDTHS};
+use model::bits::word_of;
+use model::decoder::turned_left;
 use model::refusal::Answer;
 
 /// Whether the butterfly of width 8 scatters by the mask on these controls.
@@ -59,6 +61,27 @@ fn ones_are_counted_from_bit_0() {
     assert_eq!(misread, [0b0111, 0b0101, 0b0011, 0, 0, 0]);
     assert!(scatters(0xAD, controls));
     assert!(!scatters(0xAD, misread));
+}
+
+/// The controls of width 8 if the bit in the middle of the pairs were counted too.
+fn counted_with_the_bit_itself(mask: u64) -> Controls {
+    let turned = |d: u32, j: u32| {
+        let count = (mask & low_ones(2 * j * d + d + 1)).count_ones() as usize;
+        word_of(&turned_left(count, vec![false; d as usize]))
+    };
+    let stage = |d| (0..4 / d).fold(0, |stage, j| stage | (turned(d, j) << (j * d)) as u32);
+    [stage(4), stage(2), stage(1), 0, 0, 0]
+}
+
+/// "notes for every line how many ones lie below it" (02, Req 04): not at it.
+#[test]
+fn a_bit_is_not_among_the_ones_below_it() {
+    for mask in 0..=0xFF {
+        let controls = decode(8, mask).butterfly;
+        let misread = counted_with_the_bit_itself(mask);
+        assert_eq!(misread == controls, mask & !1 == 0);
+        assert_eq!(scatters(mask, misread), misread == controls);
+    }
 }
 
 /// "Reading settings of zero as pass. A fresh unit's kind 1 reverses the word."

@@ -3,24 +3,22 @@ use mathlib.Core.Path.{_≡_, _∙_, ap}
 use Prim.Native.Nat.{ℕ, _+_, _-_, _*_, _<_, _≤_}
 use native.Mathlib.Omega.{arith}
 use Rattle.bits.specs.Bit.{ofBits}
-use Rattle.network.specs.Decoder.{controlAt}
-use Rattle.network.proofs.StageBlocks.{shl-one, block-small, stage-turn, stage-fits}
-use lib.Pow.{pow-pos}
+use Rattle.network.proofs.StageBlocks.{block-small, controlBy, stage-turn, stage-fits, controls-counted}
 use borrow.Author.Needs.{needs}
 use Rattle.network.proofs.stage_bits.Statement.{statement}
 use Rattle.network.proofs.stage_bits.Tie as tie
 
 abbrev Inv-loop : tie.InvT-loop
-Inv-loop distance blocks mask out₀ block₀ out block = (block ≤ blocks) × (out ≡ ofBits (distance * block) (controlAt distance mask))
+Inv-loop distance blocks counts out₀ block₀ out block = (block ≤ blocks) × (out ≡ ofBits (distance * block) (controlBy distance counts))
 
 abbrev μ-loop : tie.MeasureT-loop
-μ-loop distance blocks mask out₀ block₀ out block = blocks - block
+μ-loop distance blocks counts out₀ block₀ out block = blocks - block
 
 loop-holds : tie.Need-loop-holds Inv-loop μ-loop
 unfolding ofBits
 loop-holds c =
     let e : 0 ≡ c .args .distance * 0 = omega arith in
-    (search needs, ap (λ (n : ℕ). ofBits n (controlAt (c .args .distance) (c .args .mask))) e)
+    (search needs, ap (λ (n : ℕ). ofBits n (controlBy (c .args .distance) (c .args .counts .now))) e)
 
 -- what keeps the numbers of a turn small
 small : (c : tie.In-loop Inv-loop μ-loop)
@@ -28,26 +26,17 @@ small : (c : tie.In-loop Inv-loop μ-loop)
 small c =
     let a = c .before .before .args in block-small (a .distance) (c .before .loop .block) (a .blocks) (search needs) (search needs) (search needs)
 
-mul-below : tie.Need-mul-below Inv-loop μ-loop
-mul-below c = omega (arith, small c)
+mul-count : tie.Need-mul-count Inv-loop μ-loop
+mul-count c = omega (arith, small c)
 
-mul-below-2 : tie.Need-mul-below-2 Inv-loop μ-loop
-mul-below-2 c = omega (arith, small c)
+mul-count-2 : tie.Need-mul-count-2 Inv-loop μ-loop
+mul-count-2 c = omega (arith, small c)
 
-add-below : tie.Need-add-below Inv-loop μ-loop
-add-below c = omega (arith, small c)
+add-count : tie.Need-add-count Inv-loop μ-loop
+add-count c = omega (arith, small c)
 
-shl-below : tie.Need-shl-below Inv-loop μ-loop
-shl-below c = omega (arith, small c)
-
-rem-below : tie.Need-rem-below Inv-loop μ-loop
-rem-below c =
-    let d = c .before .before .args .distance in
-    let n = 2 * c .before .loop .block * d + d in
-    rw (shl-one n (omega (arith, small c))) (pow-pos n)
-
-count-requires : tie.Need-count-requires Inv-loop μ-loop
-count-requires c κs = search needs
+element-copy-out-count : tie.Need-element-copy-out-count Inv-loop μ-loop
+element-copy-out-count c = omega (arith, small c)
 
 turned-bits-requires : tie.Need-turned-bits-requires Inv-loop μ-loop
 turned-bits-requires c κs = omega (arith, small (c .before))
@@ -63,8 +52,8 @@ add-out c =
     let l = c .before .before .before .loop in
     let a = c .before .before .before .before .args in
     let z = small (c .before .before) in
-    let e = stage-turn (a .distance) (a .mask) (l .block) (search needs) (z .0) (l .inv .1) (c .before .count .ensures) (c .turned-bits .ensures) in
-    record { fits = omega (arith, e, stage-fits (a .distance) (a .mask) (l .block) (search needs) (z .0)) }
+    let e = stage-turn (a .distance) (a .counts .now) (l .block) (search needs) (z .0) (l .inv .1) (c .turned-bits .ensures) in
+    record { fits = omega (arith, e, stage-fits (a .distance) (a .counts .now) (l .block) (search needs) (z .0)) }
 
 add-block : tie.Need-add-block Inv-loop μ-loop
 add-block c = search needs
@@ -76,13 +65,15 @@ loop-again : tie.Need-loop-again Inv-loop μ-loop
 loop-again c =
     let l = c .before .before .before .loop in
     let a = c .before .before .before .before .args in
-    (search needs, stage-turn (a .distance) (a .mask) (l .block) (search needs) (small (c .before .before) .0) (l .inv .1) (c .before .count .ensures) (c .turned-bits .ensures))
+    (search needs, stage-turn (a .distance) (a .counts .now) (l .block) (search needs) (small (c .before .before) .0) (l .inv .1) (c .turned-bits .ensures))
 
 returns : tie.Need-returns Inv-loop μ-loop
-returns c =
+returns c m counted =
     let a = c .before .before .args in
     let e : c .before .loop .block ≡ a .blocks = omega arith in
-    c .before .loop .inv .1 ∙ ap (λ (n : ℕ). ofBits (a .distance * n) (controlAt (a .distance) (a .mask))) e
+    c .before .loop .inv .1
+    ∙ ap (λ (n : ℕ). ofBits (a .distance * n) (controlBy (a .distance) (a .counts .now))) e
+    ∙ controls-counted (a .distance) (a .blocks) m (search needs) (search needs) counted
 
 pub stage-bits-spec : {M : Type 1} → statement M
 stage-bits-spec =
@@ -91,12 +82,10 @@ stage-bits-spec =
     Inv-loop
     μ-loop
     loop-holds
-    mul-below
-    mul-below-2
-    add-below
-    shl-below
-    rem-below
-    count-requires
+    mul-count
+    mul-count-2
+    add-count
+    element-copy-out-count
     turned-bits-requires
     mul-out
     shl-out
