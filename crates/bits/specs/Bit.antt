@@ -29,7 +29,7 @@ unfoldable pub rank : ℕ → ℕ → ℕ
 rank m zero = zero
 rank m (suc p) = rank m p + bit m p
 
--- "notes for every line how many ones lie below it" (paper 02, Req 04): one count for each of 64 bits, above those that were counted before
+-- "notes for every line how many ones lie below it" (paper 02, Req 04): for each of 64 bits, on top of the number to start from
 unfoldable pub countsBelow : ℕ → ℕ → List ℕ
 countsBelow m start = upTo 64 (λ p. start + rank m p)
 

@@ -3,7 +3,7 @@ ghost use mathlib.Core.Path.{_≡_};
 ghost use Prim.Native.Nat.{ℕ, _+_, _-_, _*_, _^_, _≤_, _<_};
 ghost use mathlib.Core.Bool.{cond, true, false};
 ghost use mathlib.Core.List.{reverse};
-ghost use lib.ListN.{length, getD, take};
+ghost use lib.ListN.{getD, take};
 ghost use Rattle.bits.specs.Bit.{ofBits, countsBelow};
 ghost use Rattle.bits.specs.Refusal.{logOf, accepted};
 ghost use Rattle.network.specs.Stage.{falling, rising, butterflyOf, inverseOf};
@@ -394,9 +394,9 @@ fn turned_bits(distance: u64, count: u8) -> u64
 
 // internal: the counts below 64 bits, and at most 32 control bits, `distance` for each block. The control bits of one stage: those of a
 // block are turned by the count below the middle of its pairs.
-fn stage_bits(distance: u64, blocks: u64, counts: &[u8; 64]) -> u64
-    requires { ⌜ (0 < distance) × (distance * blocks ≤ 32) × (length (now counts) ≡ 64) ⌝ }
-    ensures { λ r. ⌜ ((m : ℕ) → now (counts .entry) ≡ countsBelow m 0 → r ≡ ofBits (distance * blocks) (controlAt distance m)) ⌝ }
+fn stage_bits(distance: u64, blocks: u64, counts: [u8; 64]) -> u64
+    requires { ⌜ (0 < distance) × (distance * blocks ≤ 32) ⌝ }
+    ensures { λ r. ⌜ ((m : ℕ) → counts ≡ countsBelow m 0 → r ≡ ofBits (distance * blocks) (controlAt distance m)) ⌝ }
 {
     let mut out: u64 = 0;
     let mut block: u64 = 0;
@@ -416,7 +416,7 @@ pub fn decode_64(mask: u64) -> [u32; 6]
     let mut stages = [0u32; 6];
     let mut at: usize = 0;
     while at < 6 {
-        stages[at] = stage_bits(1 << (5 - at), 1 << at, &counts) as u32;
+        stages[at] = stage_bits(1 << (5 - at), 1 << at, counts) as u32;
         at += 1;
     }
     stages

@@ -33,11 +33,11 @@ shl-stage-bits-2 c = search needs
 
 stage-bits-requires : tie.Need-stage-bits-requires Inv-loop μ-loop
 stage-bits-requires c κs =
-    let z = stage-size 6 (c .before .before .loop .at) (search needs) (omega arith) in (z .0, z .1, search needs)
+    stage-size 6 (c .before .loop .at) (search needs) (omega arith)
 
 cast-stages : tie.Need-cast-stages Inv-loop μ-loop
 cast-stages c =
-    let s = c .before .before .before in
+    let s = c .before .before in
     let b = s .before in
     let m = b .before .args .mask in
     record { fits = omega (arith, c .stage-bits .ensures m (b .counts-below .ensures), decoded-lt 6 (s .loop .at) (search needs) (omega arith) m) }
@@ -56,7 +56,7 @@ loop-less c = search needs
 
 loop-again : tie.Need-loop-again Inv-loop μ-loop
 loop-again c =
-    let s = c .before .before .before in
+    let s = c .before .before in
     let b = s .before in
     let l = s .loop in
     let m = b .before .args .mask in

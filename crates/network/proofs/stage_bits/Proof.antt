@@ -18,7 +18,7 @@ loop-holds : tie.Need-loop-holds Inv-loop μ-loop
 unfolding ofBits
 loop-holds c =
     let e : 0 ≡ c .args .distance * 0 = omega arith in
-    (search needs, ap (λ (n : ℕ). ofBits n (controlBy (c .args .distance) (c .args .counts .now))) e)
+    (search needs, ap (λ (n : ℕ). ofBits n (controlBy (c .args .distance) (c .args .t3))) e)
 
 -- what keeps the numbers of a turn small
 small : (c : tie.In-loop Inv-loop μ-loop)
@@ -35,25 +35,25 @@ mul-count-2 c = omega (arith, small c)
 add-count : tie.Need-add-count Inv-loop μ-loop
 add-count c = omega (arith, small c)
 
-element-copy-out-count : tie.Need-element-copy-out-count Inv-loop μ-loop
-element-copy-out-count c = omega (arith, small c)
+array-read-count : tie.Need-array-read-count Inv-loop μ-loop
+array-read-count c = omega (arith, small c)
 
 turned-bits-requires : tie.Need-turned-bits-requires Inv-loop μ-loop
-turned-bits-requires c κs = omega (arith, small (c .before))
+turned-bits-requires c κs = omega (arith, small c)
 
 mul-out : tie.Need-mul-out Inv-loop μ-loop
-mul-out c = omega (arith, small (c .before .before))
+mul-out c = omega (arith, small (c .before))
 
 shl-out : tie.Need-shl-out Inv-loop μ-loop
-shl-out c = omega (arith, small (c .before .before))
+shl-out c = omega (arith, small (c .before))
 
 add-out : tie.Need-add-out Inv-loop μ-loop
 add-out c =
-    let l = c .before .before .before .loop in
-    let a = c .before .before .before .before .args in
-    let z = small (c .before .before) in
-    let e = stage-turn (a .distance) (a .counts .now) (l .block) (search needs) (z .0) (l .inv .1) (c .turned-bits .ensures) in
-    record { fits = omega (arith, e, stage-fits (a .distance) (a .counts .now) (l .block) (search needs) (z .0)) }
+    let l = c .before .before .loop in
+    let a = c .before .before .before .args in
+    let z = small (c .before) in
+    let e = stage-turn (a .distance) (a .t3) (l .block) (search needs) (z .0) (l .inv .1) (c .turned-bits .ensures) in
+    record { fits = omega (arith, e, stage-fits (a .distance) (a .t3) (l .block) (search needs) (z .0)) }
 
 add-block : tie.Need-add-block Inv-loop μ-loop
 add-block c = search needs
@@ -63,16 +63,16 @@ loop-less c = search needs
 
 loop-again : tie.Need-loop-again Inv-loop μ-loop
 loop-again c =
-    let l = c .before .before .before .loop in
-    let a = c .before .before .before .before .args in
-    (search needs, stage-turn (a .distance) (a .counts .now) (l .block) (search needs) (small (c .before .before) .0) (l .inv .1) (c .turned-bits .ensures))
+    let l = c .before .before .loop in
+    let a = c .before .before .before .args in
+    (search needs, stage-turn (a .distance) (a .t3) (l .block) (search needs) (small (c .before) .0) (l .inv .1) (c .turned-bits .ensures))
 
 returns : tie.Need-returns Inv-loop μ-loop
 returns c m counted =
     let a = c .before .before .args in
     let e : c .before .loop .block ≡ a .blocks = omega arith in
     c .before .loop .inv .1
-    ∙ ap (λ (n : ℕ). ofBits (a .distance * n) (controlBy (a .distance) (a .counts .now))) e
+    ∙ ap (λ (n : ℕ). ofBits (a .distance * n) (controlBy (a .distance) (a .t3))) e
     ∙ controls-counted (a .distance) (a .blocks) m (search needs) (search needs) counted
 
 pub stage-bits-spec : {M : Type 1} → statement M
@@ -85,7 +85,7 @@ stage-bits-spec =
     mul-count
     mul-count-2
     add-count
-    element-copy-out-count
+    array-read-count
     turned-bits-requires
     mul-out
     shl-out
