@@ -32,8 +32,8 @@
 
 /* The version of this header, and of the archive that it belongs to. */
 #define TB_VERSION_MAJOR 0
-#define TB_VERSION_MINOR 5
-#define TB_VERSION_PATCH 1
+#define TB_VERSION_MINOR 6
+#define TB_VERSION_PATCH 0
 
 #ifdef __cplusplus
 extern "C" {
@@ -57,7 +57,8 @@ enum TbRefusal {
     TB_REFUSAL_RANGE = 9,        /* a above b, b above the length of the words that a and b
                                     cut, or either list above 2,048 words */
     TB_REFUSAL_SHORT = 10,       /* the other list of words shorter than its bits need */
-    TB_REFUSAL_SPARE = 11        /* a spare bit of the last packed word read is one */
+    TB_REFUSAL_SPARE = 11,       /* a spare bit of the last packed word read is one */
+    TB_REFUSAL_SUBWORD = 12      /* subword size not 1, 2, 4, 8, 16, 32 */
 };
 
 /* The answer of tb_gather, tb_scatter and tb_group. */
@@ -100,7 +101,10 @@ TbGathered tb_group(uint32_t width, uint64_t mask, uint64_t word);
  * stage is unused, and zero.
  */
 
-/* The answer of tb_butterfly and tb_inverse. */
+/*
+ * The answer of tb_butterfly and tb_inverse, and of the calls on subwords: tb_check,
+ * tb_excheck, tb_mix_left, tb_mix_right and tb_exchange.
+ */
 typedef struct {
     uint8_t refusal; /* an enum TbRefusal */
     uint64_t word;   /* the result; 0 if the call is refused */
@@ -291,6 +295,101 @@ TbPlanes tb_to_planes(const uint64_t words[8]);
  * plane p.
  */
 TbPlanes tb_from_planes(const uint64_t planes[8]);
+
+/*
+ * Tiles. A tile is a word of 8 by 8 bits: row r is byte r, row 0 on top, and
+ * column c is bit c of that byte, column 7 at the left. So row r, column c is bit
+ * 8*r + c:
+ *
+ *   column   7   6   5   4   3   2   1   0
+ *   row 0    7   6   5   4   3   2   1   0    the lowest byte
+ *   row 1   15  14  13  12  11  10   9   8
+ *   ..
+ *   row 7   63  62  61  60  59  58  57  56
+ *
+ * Each call here takes every bit to the row and the column that it says. Nothing
+ * is refused.
+ */
+
+/*
+ * Transpose: row r, column c goes to row c, column r. The diagonal that stays runs
+ * from the top right to the bottom left. Twice gives the tile back.
+ */
+uint64_t tb_tile_transpose(uint64_t tile);
+
+/*
+ * Turn left, a quarter counter-clockwise: row r, column c goes to row c, column
+ * 7 - r. Four times give the tile back.
+ */
+uint64_t tb_tile_turn_left(uint64_t tile);
+
+/*
+ * Turn right, a quarter clockwise: row r, column c goes to row 7 - c, column r.
+ * It undoes tb_tile_turn_left.
+ */
+uint64_t tb_tile_turn_right(uint64_t tile);
+
+/*
+ * Mirror the columns, left and right: row r, column c goes to row r, column 7 - c.
+ * Twice gives the tile back.
+ */
+uint64_t tb_tile_mirror_columns(uint64_t tile);
+
+/*
+ * Mirror the rows, top and bottom: row r, column c goes to row 7 - r, column c.
+ * Twice gives the tile back.
+ */
+uint64_t tb_tile_mirror_rows(uint64_t tile);
+
+/*
+ * Subwords. A size z is 1, 2, 4, 8, 16 or 32, and a word has 64/z subwords of z
+ * bits, counted from 0 at the left: the leftmost has the highest bits. Every word is
+ * accepted; at any other size a call is refused by TB_REFUSAL_SUBWORD.
+ *
+ * With first = a b c d e f g h and second = A B C D E F G H, the leftmost letter
+ * first and each of 8 bits, at sizes 8 and 16:
+ *
+ *   tb_check        a B c D e F g H    a b C D e f G H
+ *   tb_excheck      B a D c F e H g    C D a b G H e f
+ *   tb_mix_left     a A c C e E g G    a b A B e f E F
+ *   tb_mix_right    b B d D f F h H    c d C D g h G H
+ *   tb_exchange     b a d c f e h g    c d a b g h e f    (of first)
+ */
+
+/*
+ * Check: subword i of the result is subword i of first if i is even, of second if
+ * i is odd.
+ * Refusals: TB_REFUSAL_SUBWORD.
+ */
+TbCarried tb_check(uint32_t size, uint64_t first, uint64_t second);
+
+/*
+ * Excheck: tb_exchange of what tb_check answers. Subword i of the result is subword
+ * i + 1 of second if i is even, i - 1 of first if i is odd.
+ * Refusals: TB_REFUSAL_SUBWORD.
+ */
+TbCarried tb_excheck(uint32_t size, uint64_t first, uint64_t second);
+
+/*
+ * Mix left (mixL): the even subwords of both. Subword i of the result is subword i
+ * of first if i is even, i - 1 of second if i is odd.
+ * Refusals: TB_REFUSAL_SUBWORD.
+ */
+TbCarried tb_mix_left(uint32_t size, uint64_t first, uint64_t second);
+
+/*
+ * Mix right (mixR): the odd subwords of both. Subword i of the result is subword
+ * i + 1 of first if i is even, i of second if i is odd.
+ * Refusals: TB_REFUSAL_SUBWORD.
+ */
+TbCarried tb_mix_right(uint32_t size, uint64_t first, uint64_t second);
+
+/*
+ * Exchange: each even subword changes places with the odd one to the right of it.
+ * Twice gives the word back.
+ * Refusals: TB_REFUSAL_SUBWORD.
+ */
+TbCarried tb_exchange(uint32_t size, uint64_t word);
 
 /*
  * The register unit, at width 64. Its registers lie in a bank that the caller

@@ -105,7 +105,7 @@ pick-marked-lt m w x = rw (length-marked m w) at (pick-lt x (marked m w))
 
 -- putting
 
-put-append : (ps qs : List ℕ) (x : ℕ) → put (ps ++ qs) x ≡ put ps x + put qs (x / 2 ^ length ps)
+pub put-append : (ps qs : List ℕ) (x : ℕ) → put (ps ++ qs) x ≡ put ps x + put qs (x / 2 ^ length ps)
 unfolding put
 put-append [] qs x = ap (put qs) (sym (div-one x)) ∙ sym (zero-add (put qs (x / 1)))
 put-append (p ∷ ps) qs x =

@@ -31,6 +31,8 @@ pub const SHORT: u8 = 10; // the other list of words is shorter than its bits ne
 
 pub const SPARE: u8 = 11; // a spare bit of the last packed word read is one (paper 02, Req 02)
 
+pub const SUBWORD: u8 = 12; // the subword size is not 1, 2, 4, 8, 16 or 32 (paper 02, Req 05)
+
 // The base-two logarithm of an accepted width, 0 for any other number.
 pub fn log_of(width: u32) -> u32
     ensures { λ r. ⌜ r ≡ logOf width ⌝ }

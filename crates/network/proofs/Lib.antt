@@ -3,6 +3,7 @@ pub mod Turn
 pub mod Travel
 pub mod Decoding
 pub mod MaskRouting
+pub mod MarkedBits
 pub mod PairsExchanged
 pub mod Table
 pub mod TableSteps

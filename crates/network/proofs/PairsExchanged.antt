@@ -2,19 +2,20 @@
 use mathlib.Core.Path.{_≡_, refl, sym, _∙_, ap}
 use mathlib.Core.Logic.{_⊎_, inl, inr}
 use mathlib.Core.Bool.{Bool, cond}
-use Prim.Native.Nat.{ℕ, zero, suc, _+_, _-_, _*_, _/_, _%_, _^_, _<_, _≤_, min, max}
+use Prim.Native.Nat.{ℕ, zero, suc, _+_, _-_, _*_, _/_, _%_, _^_, _<_, _≤_, max}
 use native.Mathlib.Omega.{arith}
-use native.Mathlib.Nat.{mod-lt}
+use native.Mathlib.Decide.{decLt}
 use lib.Dec.{eqb}
-use lib.Bits.{bitAnd, bitOr, bitXor, xor-lt, and-le-l, and-le-r}
-use lib.Pow.{pow-pos, pow-mono}
+use lib.Bits.{bitAnd, bitOr, and-le-l, and-le-r}
+use lib.Pow.{pow-mono}
 use borrow.Author.Tests.{eq-eqb, ne-eqb}
 use Rattle.bits.specs.Bit.{bit}
-use Rattle.bits.proofs.Word.{digit, bit-lt, bit-cases, bit-mod-two, bit-and, bit-or, bit-xor, bit-not, bit-shr, bit-shl-below, bit-shl-from, bit-above, bit-ofBits, ofBits-lt, ext}
+use Rattle.bits.proofs.Word.{digit, bit-lt, bit-cases, bit-mod-two, bit-and, bit-or, bit-not, bit-shl-below, bit-shl-from, bit-above, bit-ofBits, ofBits-lt, ext}
 use Rattle.network.specs.Stage.{switchOf, source, stage}
 use Rattle.network.specs.Word.{atLower, pairs, spreadOf, swapsOf, exchangeOf}
 use Rattle.network.proofs.Index.{placeAt, on-places, side-of, switch-at, source-at}
 use Rattle.network.proofs.Travel.{bit-stage, stage-lt}
+use Rattle.network.proofs.MarkedBits.{at-marked, at-above, at-other, exchanged-lt}
 
 shl-above : (x d q : ℕ) → d + q < 64 → bit (x * 2 ^ d % 2 ^ 64) (d + q) ≡ bit x q
 shl-above x d q h = bit-shl-from x d (d + q) q h refl
@@ -54,12 +55,6 @@ module _ (d c J t : ℕ) (h : t < d) where
 
 -- The exchange is the stage.
 
-abbrev differ : ℕ → ℕ → ℕ → ℕ
-differ d c x = bitAnd (bitXor x (x / 2 ^ d)) (swapsOf d c)
-
-abbrev exchanged : ℕ → ℕ → ℕ → ℕ
-exchanged d c x = bitXor (bitXor x (differ d c x)) (differ d c x * 2 ^ d % 2 ^ 64)
-
 module _ (d c J t : ℕ) (h : t < d) where
   bit-swaps : placeAt d J 0 t < 64 → bit (swapsOf d c) (placeAt d J 0 t) ≡ 1 - bit c (J * d + t)
   unfolding spreadOf swapsOf
@@ -77,78 +72,65 @@ module _ (d c J t : ℕ) (h : t < d) where
   bit-swaps-upper l =
       bit-and (pairs d) ((2 ^ 64 - 1) - spreadOf d c) (placeAt d J 1 t) ∙ omega (arith, bit-upper d (λ p. 1) J t h l)
 
+swaps-lt : (d c : ℕ) → swapsOf d c < 2 ^ 64
+unfolding swapsOf
+swaps-lt d c = omega (arith, and-le-l (pairs d) ((2 ^ 64 - 1) - spreadOf d c), lower-lt d (λ p. 1))
+
+module _ (d c : ℕ) (pos : 0 < d) where
+  -- above a lower place is an upper one, which is not marked; so is what lies below it
+  upper-free : (J t : ℕ) → t < d → bit (swapsOf d c) (placeAt d J 1 t) ≡ 0
+  upper-free J t h = by (decLt (placeAt d J 1 t) 64)
+    where
+      by : Dec (placeAt d J 1 t < 64) → bit (swapsOf d c) (placeAt d J 1 t) ≡ 0
+      by (yes l) = bit-swaps-upper d c J t h l
+      by (no n) = bit-above {w = 64} (placeAt d J 1 t) (swaps-lt d c) (omega arith)
+
+  below-free : (J t : ℕ) → t < d → d ≤ placeAt d J 0 t → bit (swapsOf d c) (placeAt d J 0 t - d) ≡ 0
+  below-free zero t h l = absurd (omega arith)
+  below-free (suc J) t h l = let q : placeAt d (suc J) 0 t - d ≡ placeAt d J 1 t = omega arith in ap (bit (swapsOf d c)) q ∙ upper-free J t h
+
+  swaps-once : (p : ℕ) → bit (swapsOf d c) p ≡ 1 → bit (swapsOf d c) (p + d) ≡ 0
+  swaps-once = on-places pos _ at
+    where
+      at : (J e t : ℕ) → e < 2 → t < d → bit (swapsOf d c) (placeAt d J e t) ≡ 1 → bit (swapsOf d c) (placeAt d J e t + d) ≡ 0
+      at J zero t he h o = let q : placeAt d J 0 t + d ≡ placeAt d J 1 t = omega arith in ap (bit (swapsOf d c)) q ∙ upper-free J t h
+      at J (suc zero) t he h o = absurd (omega (arith, upper-free J t h))
+      at J (suc (suc e)) t he h o = absurd (omega arith)
+
   module _ (x : ℕ) where
-    bit-differ : placeAt d J 0 t < 64
-        → bit (differ d c x) (placeAt d J 0 t) ≡ min ((bit x (placeAt d J 0 t) + bit x (placeAt d J 1 t)) % 2) (1 - bit c (J * d + t))
-    bit-differ l =
-        let q : d + placeAt d J 0 t ≡ placeAt d J 1 t = omega arith in
-        bit-and (bitXor x (x / 2 ^ d)) (swapsOf d c) (placeAt d J 0 t)
-        ∙ omega (arith, bit-xor x (x / 2 ^ d) (placeAt d J 0 t), bit-shr x d (placeAt d J 0 t), ap (bit x) q, bit-swaps l)
+    exchanged-at : (J e t : ℕ) → e < 2 → t < d → placeAt d J e t < 64
+        → bit (exchangeOf d (swapsOf d c) x) (placeAt d J e t) ≡ bit x (placeAt d J ((e + bit c (J * d + t) + 1) % 2) t)
+    exchanged-at J zero t he h l = by (bit-cases c (J * d + t))
+      where
+        by : (bit c (J * d + t) ≡ 0) ⊎ (bit c (J * d + t) ≡ 1)
+            → bit (exchangeOf d (swapsOf d c) x) (placeAt d J 0 t) ≡ bit x (placeAt d J ((0 + bit c (J * d + t) + 1) % 2) t)
+        by (inl z) =
+            let q : placeAt d J 0 t + d ≡ placeAt d J ((0 + bit c (J * d + t) + 1) % 2) t = rw z (omega arith) in
+            at-marked d (swapsOf d c) swaps-once x (placeAt d J 0 t) l (omega (arith, bit-swaps d c J t h l)) ∙ ap (bit x) q
+        by (inr o) =
+            let q : placeAt d J 0 t ≡ placeAt d J ((0 + bit c (J * d + t) + 1) % 2) t = rw o (omega arith) in
+            at-other d (swapsOf d c) swaps-once x (placeAt d J 0 t) l (omega (arith, bit-swaps d c J t h l)) (below-free J t h) ∙ ap (bit x) q
+    exchanged-at J (suc zero) t he h l = by (bit-cases c (J * d + t))
+      where
+        lower : bit (swapsOf d c) (placeAt d J 1 t - d) ≡ 1 - bit c (J * d + t)
+        lower = let q : placeAt d J 1 t - d ≡ placeAt d J 0 t = omega arith in ap (bit (swapsOf d c)) q ∙ bit-swaps d c J t h (omega arith)
 
-    bit-differ-upper : placeAt d J 1 t < 64 → bit (differ d c x) (placeAt d J 1 t) ≡ 0
-    bit-differ-upper l =
-        bit-and (bitXor x (x / 2 ^ d)) (swapsOf d c) (placeAt d J 1 t) ∙ omega (arith, bit-swaps-upper l)
+        by : (bit c (J * d + t) ≡ 0) ⊎ (bit c (J * d + t) ≡ 1)
+            → bit (exchangeOf d (swapsOf d c) x) (placeAt d J 1 t) ≡ bit x (placeAt d J ((1 + bit c (J * d + t) + 1) % 2) t)
+        by (inl z) =
+            let q : placeAt d J 1 t - d ≡ placeAt d J ((1 + bit c (J * d + t) + 1) % 2) t = rw z (omega arith) in
+            at-above d (swapsOf d c) swaps-once x (placeAt d J 1 t) l (upper-free J t h) (omega arith) (omega (arith, lower)) ∙ ap (bit x) q
+        by (inr o) =
+            let q : placeAt d J 1 t ≡ placeAt d J ((1 + bit c (J * d + t) + 1) % 2) t = rw o (omega arith) in
+            at-other d (swapsOf d c) swaps-once x (placeAt d J 1 t) l (upper-free J t h) (λ k. omega (arith, lower)) ∙ ap (bit x) q
+    exchanged-at J (suc (suc e)) t he h l = absurd (omega arith)
 
-module _ (d c x : ℕ) where
-  -- a lower place takes no bit of the shifted differences, an upper one that of its pair
-  shifted-lower : (J t : ℕ) → t < d → placeAt d J 0 t < 64 → bit (differ d c x * 2 ^ d % 2 ^ 64) (placeAt d J 0 t) ≡ 0
-  shifted-lower zero t h l = bit-shl-below (differ d c x) d (placeAt d 0 0 t) l (omega arith)
-  shifted-lower (suc J) t h l =
-      let q : d + placeAt d J 1 t ≡ placeAt d (suc J) 0 t = omega arith in
-      ap (bit (differ d c x * 2 ^ d % 2 ^ 64)) (sym q)
-      ∙ shl-above (differ d c x) d (placeAt d J 1 t) (omega (arith, q))
-      ∙ bit-differ-upper d c J t h x (omega (arith, q))
-
-  shifted-upper : (J t : ℕ) → t < d → placeAt d J 1 t < 64
-      → bit (differ d c x * 2 ^ d % 2 ^ 64) (placeAt d J 1 t) ≡ min ((bit x (placeAt d J 0 t) + bit x (placeAt d J 1 t)) % 2) (1 - bit c (J * d + t))
-  shifted-upper J t h l =
-      let q : d + placeAt d J 0 t ≡ placeAt d J 1 t = omega arith in
-      ap (bit (differ d c x * 2 ^ d % 2 ^ 64)) (sym q)
-      ∙ shl-above (differ d c x) d (placeAt d J 0 t) (omega (arith, q))
-      ∙ bit-differ d c J t h x (omega (arith, q))
-
-  bit-exchanged : (p : ℕ) → bit (exchanged d c x) p ≡ (bit x p + bit (differ d c x) p + bit (differ d c x * 2 ^ d % 2 ^ 64) p) % 2
-  bit-exchanged p =
-      bit-xor (bitXor x (differ d c x)) (differ d c x * 2 ^ d % 2 ^ 64) p ∙ omega (arith, bit-xor x (differ d c x) p)
-
-  exchanged-at : (J e t : ℕ) → e < 2 → t < d → placeAt d J e t < 64
-      → bit (exchanged d c x) (placeAt d J e t) ≡ bit x (placeAt d J ((e + bit c (J * d + t) + 1) % 2) t)
-  exchanged-at J zero t he h l = by-control (bit-cases c (J * d + t))
-    where
-      by-control : (bit c (J * d + t) ≡ 0) ⊎ (bit c (J * d + t) ≡ 1)
-          → bit (exchanged d c x) (placeAt d J 0 t) ≡ bit x (placeAt d J ((0 + bit c (J * d + t) + 1) % 2) t)
-      by-control (inl z) =
-          rw (bit-exchanged (placeAt d J 0 t), bit-differ d c J t h x l, shifted-lower J t h l, z)
-          (omega (arith, bit-lt x (placeAt d J 0 t), bit-lt x (placeAt d J 1 t)))
-      by-control (inr o) =
-          rw (bit-exchanged (placeAt d J 0 t), bit-differ d c J t h x l, shifted-lower J t h l, o)
-          (omega (arith, bit-lt x (placeAt d J 0 t), bit-lt x (placeAt d J 1 t)))
-  exchanged-at J (suc zero) t he h l = by-control (bit-cases c (J * d + t))
-    where
-      by-control : (bit c (J * d + t) ≡ 0) ⊎ (bit c (J * d + t) ≡ 1)
-          → bit (exchanged d c x) (placeAt d J 1 t) ≡ bit x (placeAt d J ((1 + bit c (J * d + t) + 1) % 2) t)
-      by-control (inl z) =
-          rw (bit-exchanged (placeAt d J 1 t), bit-differ-upper d c J t h x l, shifted-upper J t h l, z)
-          (omega (arith, bit-lt x (placeAt d J 0 t), bit-lt x (placeAt d J 1 t)))
-      by-control (inr o) =
-          rw (bit-exchanged (placeAt d J 1 t), bit-differ-upper d c J t h x l, shifted-upper J t h l, o)
-          (omega (arith, bit-lt x (placeAt d J 0 t), bit-lt x (placeAt d J 1 t)))
-  exchanged-at J (suc (suc e)) t he h l = absurd (omega arith)
-
-  exchanged-lt : x < 2 ^ 64 → exchanged d c x < 2 ^ 64
-  unfolding swapsOf
-  exchanged-lt h =
-      let y = differ d c x in
-      let l : y < 2 ^ 64 = omega (arith, and-le-r (bitXor x (x / 2 ^ d)) (swapsOf d c), and-le-l (pairs d) ((2 ^ 64 - 1) - spreadOf d c), lower-lt d (λ p. 1)) in
-      xor-lt 64 (bitXor x y) (y * 2 ^ d % 2 ^ 64) (xor-lt 64 x y h l) (mod-lt (y * 2 ^ d) (pow-pos 64))
-
-  pub exchange-stage : 0 < d → x < 2 ^ 64 → exchangeOf d (swapsOf d c) x ≡ stage 64 d c x
-  unfolding exchangeOf
-  exchange-stage pos h =
-      ext 64 (exchanged-lt h) (stage-lt 64 d c x) (λ p l. same p l ∙ sym (bit-stage 64 d c x p l))
-    where
-      same : (p : ℕ) → p < 64 → bit (exchanged d c x) p ≡ bit x (source d c p)
-      same = on-places pos _ (λ J e t he ht l. exchanged-at J e t he ht l ∙ ap (bit x) (sym (source-at d J e t he ht c)))
+pub exchange-stage : (d c x : ℕ) → 0 < d → x < 2 ^ 64 → exchangeOf d (swapsOf d c) x ≡ stage 64 d c x
+exchange-stage d c x pos h =
+    ext 64 (exchanged-lt d (swapsOf d c) (swaps-lt d c) h) (stage-lt 64 d c x) (λ p l. same p l ∙ sym (bit-stage 64 d c x p l))
+  where
+    same : (p : ℕ) → p < 64 → bit (exchangeOf d (swapsOf d c) x) p ≡ bit x (source d c p)
+    same = on-places pos _ (λ J e t he ht l. exchanged-at d c pos x J e t he ht l ∙ ap (bit x) (sym (source-at d J e t he ht c)))
 
 -- Spreading.
 

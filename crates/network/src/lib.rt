@@ -41,9 +41,9 @@ pub struct Decoded {
 }
 
 // The distances of the stages at width 64, and for each the word that marks the lower place of every pair.
-const DISTANCES: [u64; 6] = [32, 16, 8, 4, 2, 1];
+pub const DISTANCES: [u64; 6] = [32, 16, 8, 4, 2, 1];
 
-const PAIRS: [u64; 6] = [
+pub const PAIRS: [u64; 6] = [
     0x00000000FFFFFFFF,
     0x0000FFFF0000FFFF,
     0x00FF00FF00FF00FF,
@@ -75,14 +75,23 @@ fn swaps(first: usize, index: usize, stage: u32) -> u64
     PAIRS[index] & !spread(first, index, stage)
 }
 
-// internal: a stage of the table. The pairs whose lower places `swaps` marks are exchanged, all at once. (No other place should be marked.)
+// internal: a distance within a word. The bits at the places that `swaps` marks and those at the distance above them are exchanged, all at
+// once. (None should be marked twice, nor beyond the word.)
+pub fn exchange_marked(distance: u64, swaps: u64, word: u64) -> u64
+    requires { ⌜ distance < 64 ⌝ }
+    ensures { λ r. ⌜ r ≡ exchangeOf distance swaps word ⌝ }
+{
+    let differ = (word ^ (word >> distance)) & swaps;
+    word ^ differ ^ (differ << distance)
+}
+
+// internal: a stage of the table. The pairs whose lower places `swaps` marks are exchanged. (No other place should be marked.)
 fn exchange(index: usize, swaps: u64, word: u64) -> u64
     requires { ⌜ index < 6 ⌝ }
     ensures { λ r. ⌜ r ≡ exchangeOf (2 ^ (5 - index)) swaps word ⌝ }
 {
     let distance = DISTANCES[index];
-    let differ = (word ^ (word >> distance)) & swaps;
-    word ^ differ ^ (differ << distance)
+    exchange_marked(distance, swaps, word)
 }
 
 // internal: a stage in use. Its number in the direction of travel.
@@ -266,7 +275,7 @@ fn inverse_64(stages: [u32; 6], word: u64) -> u64
 }
 
 // The answer of a call on a network.
-fn answer(refusal: u8, word: u64) -> Carried
+pub fn answer(refusal: u8, word: u64) -> Carried
     ensures { λ r. ⌜ r ≡ record { refusal = refusal; word = word } ⌝ }
 {
     Carried { refusal, word }

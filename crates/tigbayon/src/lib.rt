@@ -1,5 +1,5 @@
 // The exported C functions, declared in include/tigbayon.h: all calls of paper 01 ('Lines, masks, orders' to 'The register unit'), those of
-// prepared networks, and the bit planes of paper 02. Each hands its arguments to one call.
+// prepared networks, and of paper 02 the bit planes, tiles and subwords. Each hands its arguments to one call.
 // No logic is here, and each promise is that call's. The host lends its register bank: it is copied out, and what the call
 // leaves is stored back.
 ghost use mathlib.Core.Path.{_≡_};
@@ -13,6 +13,8 @@ ghost use Rattle.unit.specs.Run.{ranAt, runOf};
 ghost use Rattle.unit.specs.Calls.{operated, operateOf, readOf, written, writeOf};
 ghost use Rattle.pack.specs.Calls.{packAnswer, packedOut, unpackAnswer, unpackedOut};
 ghost use Rattle.planes.specs.Planes.{planesOf, wordsOfPlanes};
+ghost use Rattle.tiles.specs.Tile.{moved, transposeRule, leftRule, rightRule, columnsRule, rowsRule};
+ghost use Rattle.subwords.specs.Subword.{checkOf, exchangePairsOf, excheckOf, mixLeftOf, mixRightOf, subwordAnswer};
 ghost use Rattle.permute.specs.Calls.{routeAnswer, AnswersFirst, oneAnswer, AnswersAlone};
 ghost use Rattle.gather.specs.Gather.{gatherOf, scatterOf, groupOf, answerOf};
 
@@ -154,6 +156,76 @@ pub extern "C" fn tb_from_planes(planes: &[u64; 8]) -> planes::Planes
     ensures { λ r. ⌜ r ≡ record { words = wordsOfPlanes (now (planes .entry)) } ⌝ }
 {
     planes::from_planes(*planes)
+}
+
+#[no_mangle]
+pub extern "C" fn tb_tile_transpose(tile: u64) -> u64
+    ensures { λ r. ⌜ r ≡ moved transposeRule tile ⌝ }
+{
+    tiles::transpose(tile)
+}
+
+#[no_mangle]
+pub extern "C" fn tb_tile_turn_left(tile: u64) -> u64
+    ensures { λ r. ⌜ r ≡ moved leftRule tile ⌝ }
+{
+    tiles::turn_left(tile)
+}
+
+#[no_mangle]
+pub extern "C" fn tb_tile_turn_right(tile: u64) -> u64
+    ensures { λ r. ⌜ r ≡ moved rightRule tile ⌝ }
+{
+    tiles::turn_right(tile)
+}
+
+#[no_mangle]
+pub extern "C" fn tb_tile_mirror_columns(tile: u64) -> u64
+    ensures { λ r. ⌜ r ≡ moved columnsRule tile ⌝ }
+{
+    tiles::mirror_columns(tile)
+}
+
+#[no_mangle]
+pub extern "C" fn tb_tile_mirror_rows(tile: u64) -> u64
+    ensures { λ r. ⌜ r ≡ moved rowsRule tile ⌝ }
+{
+    tiles::mirror_rows(tile)
+}
+
+#[no_mangle]
+pub extern "C" fn tb_check(size: u32, first: u64, second: u64) -> network::Carried
+    ensures { λ r. ⌜ r ≡ subwordAnswer size (checkOf size first second) ⌝ }
+{
+    subwords::check(size, first, second)
+}
+
+#[no_mangle]
+pub extern "C" fn tb_excheck(size: u32, first: u64, second: u64) -> network::Carried
+    ensures { λ r. ⌜ r ≡ subwordAnswer size (excheckOf size first second) ⌝ }
+{
+    subwords::excheck(size, first, second)
+}
+
+#[no_mangle]
+pub extern "C" fn tb_mix_left(size: u32, first: u64, second: u64) -> network::Carried
+    ensures { λ r. ⌜ r ≡ subwordAnswer size (mixLeftOf size first second) ⌝ }
+{
+    subwords::mix_left(size, first, second)
+}
+
+#[no_mangle]
+pub extern "C" fn tb_mix_right(size: u32, first: u64, second: u64) -> network::Carried
+    ensures { λ r. ⌜ r ≡ subwordAnswer size (mixRightOf size first second) ⌝ }
+{
+    subwords::mix_right(size, first, second)
+}
+
+#[no_mangle]
+pub extern "C" fn tb_exchange(size: u32, word: u64) -> network::Carried
+    ensures { λ r. ⌜ r ≡ subwordAnswer size (exchangePairsOf size word) ⌝ }
+{
+    subwords::exchange_pairs(size, word)
 }
 
 // One operation on a lent bank.

@@ -5,7 +5,9 @@ use crate::masks::{Mask, OfMask};
 use crate::networks::{controls_and_word, random_controls, Network, Passage, Prepare};
 use crate::packing::{Packing, ALL_MARKED, COLOUR, PACK, UNPACK};
 use crate::routing::permutation_by;
+use crate::subwords::OfPair;
 use crate::table::{print_heading, print_line};
+use crate::tiles::OfTile;
 use crate::timing::{inputs, Calls};
 use conformance::low_ones;
 use conformance::planes::Words;
@@ -14,10 +16,12 @@ use conformance::samples::{random_eight, random_permutation, Random};
 use conformance::unit::lent;
 use std::hint::black_box;
 use tigbayon::{
-    tb_butterfly, tb_butterfly_prepared, tb_decode, tb_from_planes, tb_gather, tb_group,
-    tb_inverse, tb_inverse_prepared, tb_operate, tb_prepare_butterfly, tb_prepare_inverse, tb_read,
-    tb_route, tb_route_butterfly, tb_route_inverse, tb_run, tb_scatter, tb_to_planes, tb_write,
-    TbBank, TbPlanes,
+    tb_butterfly, tb_butterfly_prepared, tb_check, tb_decode, tb_exchange, tb_excheck,
+    tb_from_planes, tb_gather, tb_group, tb_inverse, tb_inverse_prepared, tb_mix_left,
+    tb_mix_right, tb_operate, tb_prepare_butterfly, tb_prepare_inverse, tb_read, tb_route,
+    tb_route_butterfly, tb_route_inverse, tb_run, tb_scatter, tb_tile_mirror_columns,
+    tb_tile_mirror_rows, tb_tile_transpose, tb_tile_turn_left, tb_tile_turn_right, tb_to_planes,
+    tb_write, TbBank, TbPlanes,
 };
 
 /// Calls whose inputs have sizes of one sort.
@@ -37,7 +41,7 @@ type BySize = (&'static str, fn(usize) -> Calls);
 const CALL: &str = "call";
 
 /// All calls, by what they may grow with.
-pub const GROWTHS: [Growth; 5] = [
+pub const GROWTHS: [Growth; 6] = [
     Growth {
         name: "by width",
         sizes: &[8, 16, 32, 64],
@@ -73,6 +77,21 @@ pub const GROWTHS: [Growth; 5] = [
             ("route_inverse", |width| {
                 let permutation = by_network(tb_inverse);
                 routed(width, permutation, tb_route_inverse)
+            }),
+        ],
+    },
+    Growth {
+        name: "by subword size",
+        sizes: &[1, 2, 4, 8, 16, 32],
+        each: CALL,
+        calls: &[
+            ("check", |size| paired(size, tb_check)),
+            ("excheck", |size| paired(size, tb_excheck)),
+            ("mix_left", |size| paired(size, tb_mix_left)),
+            ("mix_right", |size| paired(size, tb_mix_right)),
+            ("exchange", |size| {
+                let size = size as u32;
+                calls(1, Random::word, move |&word| tb_exchange(size, word))
             }),
         ],
     },
@@ -127,6 +146,11 @@ pub const GROWTHS: [Growth; 5] = [
         calls: &[
             ("to_planes", |_| converted(tb_to_planes)),
             ("from_planes", |_| converted(tb_from_planes)),
+            ("tile_transpose", |_| moved(tb_tile_transpose)),
+            ("tile_turn_left", |_| moved(tb_tile_turn_left)),
+            ("tile_turn_right", |_| moved(tb_tile_turn_right)),
+            ("tile_mirror_columns", |_| moved(tb_tile_mirror_columns)),
+            ("tile_mirror_rows", |_| moved(tb_tile_mirror_rows)),
             ("operate", |_| {
                 on_bank(1, program, |bank, list| {
                     tb_operate(bank, list[0], list[1], list[2], list[3])
@@ -241,6 +265,16 @@ fn packed(words: usize, packing: Packing, mask: Mask) -> Calls {
 
 fn converted(call: extern "C" fn(&Words) -> TbPlanes) -> Calls {
     calls(1, random_eight, move |words| call(words))
+}
+
+fn moved(call: OfTile) -> Calls {
+    calls(1, Random::word, move |&tile| call(tile))
+}
+
+fn paired(size: usize, call: OfPair) -> Calls {
+    let size = size as u32;
+    let make = |random: &mut Random| (random.word(), random.word());
+    calls(1, make, move |&(first, second)| call(size, first, second))
 }
 
 fn random_bank(random: &mut Random) -> TbBank {

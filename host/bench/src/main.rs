@@ -22,7 +22,9 @@ mod networks;
 mod packing;
 mod planes;
 mod routing;
+mod subwords;
 mod table;
+mod tiles;
 mod timing;
 mod twin;
 
@@ -36,7 +38,7 @@ const WIDTH: u32 = 64;
 /// A contest runs the call of its name.
 type Bench = (&'static str, fn(&str));
 
-const CONTESTS: [Bench; 17] = [
+const CONTESTS: [Bench; 27] = [
     ("butterfly", networks::butterfly),
     ("inverse", networks::inverse),
     ("prepare_butterfly", networks::prepare_butterfly),
@@ -54,6 +56,16 @@ const CONTESTS: [Bench; 17] = [
     ("unpack", packing::unpack),
     ("to_planes", planes::to_planes),
     ("from_planes", planes::from_planes),
+    ("tile_transpose", tiles::transpose),
+    ("tile_turn_left", tiles::turn_left),
+    ("tile_turn_right", tiles::turn_right),
+    ("tile_mirror_columns", tiles::mirror_columns),
+    ("tile_mirror_rows", tiles::mirror_rows),
+    ("check", subwords::check),
+    ("excheck", subwords::excheck),
+    ("mix_left", subwords::mix_left),
+    ("mix_right", subwords::mix_right),
+    ("exchange", subwords::exchange),
 ];
 
 const BY_MASK: &str = "by mask";

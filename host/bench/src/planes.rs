@@ -2,6 +2,7 @@
 
 use crate::contest::{apart, Contest};
 use crate::networks::PAIRS;
+use crate::tiles;
 use conformance::planes::Words;
 use conformance::samples::random_eight;
 use std::array;
@@ -57,25 +58,11 @@ fn from_planes_by_loop(planes: &Words) -> Words {
 /// Within each word byte p takes bit p of every byte; then plane p takes byte p of
 /// every word.
 fn to_planes_by_swaps(words: &Words) -> Words {
-    shuffled(&words.map(transpose8))
+    shuffled(&words.map(tiles::by_swaps))
 }
 
 fn from_planes_by_swaps(planes: &Words) -> Words {
-    shuffled(planes).map(transpose8)
-}
-
-/// Hacker's Delight, Section 7-3: an 8x8 bit matrix, a row in each byte, by three
-/// rounds of delta swaps.
-fn transpose8(word: u64) -> u64 {
-    let rounds = [
-        (7, 0x00AA_00AA_00AA_00AA),
-        (14, 0x0000_CCCC_0000_CCCC),
-        (28, 0x0000_0000_F0F0_F0F0),
-    ];
-    rounds.iter().fold(word, |word, (distance, marked)| {
-        let differ = (word ^ word >> distance) & marked;
-        word ^ differ ^ differ << distance
-    })
+    shuffled(planes).map(tiles::by_swaps)
 }
 
 /// Byte k of word p is byte p of word k: blocks of four bytes are exchanged, then

@@ -93,6 +93,14 @@ impl Given {
             .map(move |(_, text)| Text { name, text })
     }
 
+    /// Every value of these names, in the order typed.
+    pub fn in_turn<'a>(&'a self, names: &'a [&str]) -> impl Iterator<Item = Text<'a>> {
+        let values = self.values.iter();
+        values
+            .filter(|(given, _)| names.contains(given))
+            .map(|(name, text)| Text { name, text })
+    }
+
     /// Whether the option is given.
     pub fn has(&self, name: &str) -> bool {
         self.option(name).is_some()
@@ -142,6 +150,11 @@ fn value_of(
 }
 
 impl<'a> Text<'a> {
+    /// The name that it was given by.
+    pub fn name(&self) -> &'a str {
+        self.name
+    }
+
     /// The text itself.
     pub fn text(&self) -> &'a str {
         self.text

@@ -6,13 +6,15 @@ mod networks;
 mod packing;
 mod planes;
 mod routing;
+mod subwords;
+mod tiles;
 mod unit;
 
 use crate::command::Command;
 use crate::failure::Failure;
 
 /// All of them, in the order of the help.
-pub const COMMANDS: [&Command; 12] = [
+pub const COMMANDS: [&Command; 18] = [
     &masks::GATHER,
     &masks::SCATTER,
     &masks::GROUP,
@@ -24,6 +26,12 @@ pub const COMMANDS: [&Command; 12] = [
     &packing::UNPACK,
     &planes::PLANES,
     &planes::BYTES,
+    &tiles::TILE,
+    &subwords::CHECK,
+    &subwords::EXCHECK,
+    &subwords::MIX_LEFT,
+    &subwords::MIX_RIGHT,
+    &subwords::EXCHANGE,
     &unit::RUN,
 ];
 

@@ -46,6 +46,7 @@ pub const CONDITIONS: [&str; Refusal::ALL.len()] = [
     "a above b, b above the length of the words that a and b cut, or either list above 2,048 words",
     "the other list of words shorter than its bits need",
     "a spare bit of the last packed word read is one",
+    "subword size not 1, 2, 4, 8, 16, 32",
 ];
 
 /// The condition of a refusal.

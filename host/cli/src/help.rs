@@ -5,8 +5,8 @@ use crate::commands::COMMANDS;
 use crate::failure::{condition, CONDITIONS, STATUSES};
 
 const ABOUT: &str = "\
-Tigbayon: gathers, scatters, groups, permutes and packs bits, and turns bytes into bit planes,
-by a library that is proved.
+Tigbayon: gathers, scatters, groups, permutes and packs bits, takes bytes to bit planes,
+turns tiles and mixes subwords, by a library that is proved.
 
 Usage: tigbayon COMMAND ARGUMENTS [OPTIONS]
        tigbayon COMMAND --help, or tigbayon help COMMAND

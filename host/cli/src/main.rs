@@ -11,6 +11,7 @@ mod failure;
 mod help;
 mod network;
 mod number;
+mod picture;
 
 use answer::Answer;
 use args::Given;

@@ -108,6 +108,50 @@ fn one_plane() {
 }
 
 #[test]
+fn movements() {
+    let tile = |options: &[&'static str]| [&["tile", "1"], options].concat();
+    for text in ["up", "", "Left", "leftright", "columns"] {
+        let turn = format!("--turn is {text:?}, expected left or right");
+        assert_unread(&tile(&["--turn", text]), &turn);
+        // Also after one that can be read.
+        assert_unread(&tile(&["--turn", "left", "--turn", text]), &turn);
+    }
+    for text in ["diagonal", "", "row", "left"] {
+        let mirror = format!("--mirror is {text:?}, expected columns or rows");
+        assert_unread(&tile(&["--mirror", text]), &mirror);
+    }
+    assert_unread(&tile(&["--turn"]), "--turn needs left|right");
+    assert_unread(&tile(&["--turn", "--transpose"]), "--turn needs left|right");
+    assert_unread(&tile(&["--mirror"]), "--mirror needs columns|rows");
+    assert_unread(&tile(&["--transpose=1"]), "--transpose takes no value");
+    assert_unread(&tile(&["--transpose", "1"]), "\"1\" is one too many");
+    assert_unread(&["tile", "--turn", "left"], "WORD is missing");
+    assert_unread(
+        &["tile", "x"],
+        "WORD is \"x\", expected a hexadecimal number",
+    );
+}
+
+#[test]
+fn sizes_and_words() {
+    for command in ["check", "excheck", "mix-left", "mix-right"] {
+        assert_unread(&[command], "SIZE is missing");
+        assert_unread(&[command, "8"], "FIRST is missing");
+        assert_unread(&[command, "8", "1"], "SECOND is missing");
+        assert_unread(&[command, "8", "1", "2", "3"], "\"3\" is one too many");
+        assert_unread(&[command, "8", "x", "1"], "FIRST is \"x\"");
+        assert_unread(&[command, "8", "1", "x"], "SECOND is \"x\"");
+        for text in ["0x8", "eight", "-1", "4294967296"] {
+            let size = format!("SIZE is {text:?}, expected a decimal number");
+            assert_unread(&[command, text, "1", "2"], &size);
+            assert_unread(&["exchange", text, "1"], &size);
+        }
+    }
+    assert_unread(&["exchange", "8"], "WORD is missing");
+    assert_unread(&["exchange", "8", "1", "2"], "\"2\" is one too many");
+}
+
+#[test]
 fn registers() {
     let form = "--set is \"2\", expected R=WORD";
     assert_unread(&["run", "", "--set", "2"], form);

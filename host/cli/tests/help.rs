@@ -51,7 +51,7 @@ fn every_example_prints_what_is_shown() {
             count += 1;
         }
     }
-    assert!(count > 25, "{count} examples");
+    assert!(count > 35, "{count} examples");
     assert!(folder.join("route.svg").exists());
 }
 
@@ -79,8 +79,9 @@ fn the_version() {
 
 #[test]
 fn all_commands_are_listed() {
-    let expected =
-        "gather scatter group decode butterfly inverse route pack unpack planes bytes run";
+    let expected = "\
+        gather scatter group decode butterfly inverse route pack unpack planes bytes tile \
+        check excheck mix-left mix-right exchange run";
     assert_eq!(names().join(" "), expected);
     let listed = expected.replace(' ', ", ");
     assert!(run(&["turn"]).error.contains(&listed));

@@ -167,6 +167,18 @@ fn by_a_spare_bit_last() {
     assert_refused(&["unpack", "0xFFF", ones, "0", "6"], Refusal::Short);
 }
 
+#[test]
+fn by_a_subword_size() {
+    for size in ["0", "3", "12", "63", "64", "65", "128", "4294967295"] {
+        for call in ["check", "excheck", "mix-left", "mix-right"] {
+            assert_refused(&[call, size, "1", "2"], Refusal::Subword);
+        }
+        assert_refused(&["exchange", size, "1"], Refusal::Subword);
+    }
+    let said = "refused 12: subword size not 1, 2, 4, 8, 16, 32\n";
+    assert_eq!(run(&["mix-left", "64", "1", "2"]).error, said);
+}
+
 /// A drawing of a refused call is not written.
 #[test]
 fn leave_no_file() {

@@ -6,7 +6,7 @@ use crate::packing::{spare, words_needed, LONGEST};
 use crate::programs::{cycles, damage, program};
 use crate::samples::{any_controls, any_permutation, any_word, Random};
 use crate::unit::Operation;
-use crate::WIDTHS;
+use crate::{SIZES, WIDTHS};
 
 /// A width to hand over, and the accepted one that the other arguments are made
 /// for, which mostly is the same.
@@ -21,6 +21,19 @@ pub fn widths(random: &mut Random) -> (u32, u32) {
         _ => width,
     };
     (handed, width)
+}
+
+/// A size of subwords; some are not accepted.
+pub fn size(random: &mut Random) -> u32 {
+    let size = random.pick(&SIZES);
+    match random.below(16) {
+        0 => random.pick(&[0, 64, 128]),
+        1 => random.below(130),
+        2 => random.word() as u32,
+        // A narrower integer would cut it to the accepted one.
+        3 => size | 1 << (8 + random.below(24)),
+        _ => size,
+    }
 }
 
 /// A word or a mask; some have ones above the width.

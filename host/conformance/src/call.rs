@@ -11,8 +11,8 @@ use std::fmt::Debug;
 use tigbayon::{PreparedButterfly, PreparedInverse, Refusal};
 use tigbayon::{TbCarried, TbControls1, TbControls2, TbGathered, TbPrepared};
 
-/// What a call goes by: a mask or controls, which are handed over, or a
-/// permutation, which is lent.
+/// What a call goes by: a mask, controls or the first of two words, which are handed
+/// over, or a permutation, which is lent.
 pub trait By {
     /// It, as the call takes it.
     type Input<'a>: Copy + Debug;
@@ -32,9 +32,9 @@ impl By for [u8] {
 
 type Inputs<X, W, A> = for<'a> fn(u32, <X as By>::Input<'a>, W) -> A;
 
-/// A call of a width, of a mask, controls or a permutation (`X`), and of a
-/// word (`W`, which is `()` where there is none): as the archive exports it, as
-/// the wrapper offers it, and as the model defines it.
+/// A call of a width or of a size of subwords, of a mask, controls, a permutation or
+/// a first word (`X`), and of a word (`W`, which is `()` where there is none): as the
+/// archive exports it, as the wrapper offers it, and as the model defines it.
 pub struct Call<X: By + ?Sized, R = u64, W = u64> {
     /// The call's name.
     pub name: &'static str,
@@ -179,6 +179,46 @@ pub const ROUTE_INVERSE: Call<[u8], Controls, ()> = Call {
     model: |width, permutation, ()| model::routing::route_inverse(width, permutation),
 };
 
+/// Check.
+pub const CHECK: Call<u64> = Call {
+    name: "check",
+    raw: |size, first, second| carried(tigbayon::tb_check(size, first, second)),
+    wrapped: tigbayon::check,
+    model: model::subwords::check,
+};
+
+/// Excheck.
+pub const EXCHECK: Call<u64> = Call {
+    name: "excheck",
+    raw: |size, first, second| carried(tigbayon::tb_excheck(size, first, second)),
+    wrapped: tigbayon::excheck,
+    model: model::subwords::excheck,
+};
+
+/// Mix left.
+pub const MIX_LEFT: Call<u64> = Call {
+    name: "mix_left",
+    raw: |size, first, second| carried(tigbayon::tb_mix_left(size, first, second)),
+    wrapped: tigbayon::mix_left,
+    model: model::subwords::mix_left,
+};
+
+/// Mix right.
+pub const MIX_RIGHT: Call<u64> = Call {
+    name: "mix_right",
+    raw: |size, first, second| carried(tigbayon::tb_mix_right(size, first, second)),
+    wrapped: tigbayon::mix_right,
+    model: model::subwords::mix_right,
+};
+
+/// Exchange.
+pub const EXCHANGE: Call<u64, u64, ()> = Call {
+    name: "exchange",
+    raw: |size, word, ()| carried(tigbayon::tb_exchange(size, word)),
+    wrapped: |size, word, ()| tigbayon::exchange(size, word),
+    model: |size, word, ()| model::subwords::exchange(size, word),
+};
+
 /// Every call of width, mask and word.
 pub const MASK_CALLS: [Call<u64, Gathered>; 3] = [GATHER, SCATTER, GROUP];
 
@@ -190,6 +230,9 @@ pub const PREPARE: [Call<Controls, Swaps, ()>; 2] = [PREPARE_BUTTERFLY, PREPARE_
 
 /// Routing through one network, in the same order.
 pub const ROUTE_ONE: [Call<[u8], Controls, ()>; 2] = [ROUTE_BUTTERFLY, ROUTE_INVERSE];
+
+/// Every call of the subwords of two words.
+pub const PAIR_CALLS: [Call<u64>; 4] = [CHECK, EXCHECK, MIX_LEFT, MIX_RIGHT];
 
 impl<X, R, W> Call<X, R, W>
 where

@@ -2,8 +2,9 @@
 //! whole answer and in everything that is lent.
 
 use crate::arbitrary::{budget, controls, cut, end, length, list, operation, other_length};
-use crate::arbitrary::{permutation, register, widths, word};
+use crate::arbitrary::{permutation, register, size, widths, word};
 use crate::call::{Call, BUTTERFLY, DECODE, GATHER, GROUP, INVERSE, SCATTER};
+use crate::call::{CHECK, EXCHANGE, EXCHECK, MIX_LEFT, MIX_RIGHT};
 use crate::call::{PREPARE_BUTTERFLY, PREPARE_INVERSE, ROUTE, ROUTE_BUTTERFLY, ROUTE_INVERSE};
 use crate::controls::Controls;
 use crate::packing::{PackingCall, PACK, UNPACK};
@@ -11,6 +12,7 @@ use crate::planes::{turned_over, Conversion, FROM_PLANES, TO_PLANES};
 use crate::prepared::{Passage, THROUGH_BUTTERFLY, THROUGH_INVERSE};
 use crate::programs::bank;
 use crate::samples::{any_controls, any_eight, any_swaps, any_word, Random};
+use crate::tiles::{Movement, MIRROR_COLUMNS, MIRROR_ROWS, TRANSPOSE, TURN_LEFT, TURN_RIGHT};
 use crate::unit::{operate, read, run, write};
 use crate::WIDTHS;
 use model::gather::Gathered;
@@ -21,7 +23,7 @@ use std::iter::zip;
 use std::panic::{catch_unwind, resume_unwind};
 
 /// How many refusal numbers there are, 0 among them.
-const NUMBERS: usize = 12;
+const NUMBERS: usize = 13;
 
 /// An exported call.
 struct Target {
@@ -32,7 +34,7 @@ struct Target {
     check: fn(&mut Random) -> u8,
 }
 
-const TARGETS: [Target; 21] = [
+const TARGETS: [Target; 31] = [
     target("gather", &[0, 1, 2], |random| masked(random, GATHER)),
     target("scatter", &[0, 1, 2], |random| masked(random, SCATTER)),
     target("group", &[0, 1, 2], |random| masked(random, GROUP)),
@@ -72,6 +74,29 @@ const TARGETS: [Target; 21] = [
     }),
     target("from_planes", &[0], |random| {
         converted(random, FROM_PLANES, TO_PLANES)
+    }),
+    target("tile_transpose", &[0], |random| {
+        moved(random, TRANSPOSE, TRANSPOSE)
+    }),
+    target("tile_turn_left", &[0], |random| {
+        moved(random, TURN_LEFT, TURN_RIGHT)
+    }),
+    target("tile_turn_right", &[0], |random| {
+        moved(random, TURN_RIGHT, TURN_LEFT)
+    }),
+    target("tile_mirror_columns", &[0], |random| {
+        moved(random, MIRROR_COLUMNS, MIRROR_COLUMNS)
+    }),
+    target("tile_mirror_rows", &[0], |random| {
+        moved(random, MIRROR_ROWS, MIRROR_ROWS)
+    }),
+    target("check", &[0, 12], |random| paired(random, CHECK)),
+    target("excheck", &[0, 12], |random| paired(random, EXCHECK)),
+    target("mix_left", &[0, 12], |random| paired(random, MIX_LEFT)),
+    target("mix_right", &[0, 12], |random| paired(random, MIX_RIGHT)),
+    target("exchange", &[0, 12], |random| {
+        let size = size(random);
+        EXCHANGE.check(size, any_word(random, 64), ()).refusal
     }),
     target("operate", &[0, 7, 8], |random| {
         operate(&mut bank(random), operation(random)).refusal
@@ -166,6 +191,22 @@ fn converted(random: &mut Random, there: Conversion, back: Conversion) -> u8 {
     NONE
 }
 
+/// There and back, with a bit turned over on the way or none, likewise.
+fn moved(random: &mut Random, there: Movement, back: Movement) -> u8 {
+    let tile = any_word(random, 64);
+    let bit = 1 << random.below(64);
+    let turned_over = random.pick(&[0, bit]);
+    let again = back.check(there.check(tile) ^ turned_over);
+    assert_eq!((again ^ tile).count_ones(), turned_over.count_ones());
+    NONE
+}
+
+fn paired(random: &mut Random, call: Call<u64>) -> u8 {
+    let size = size(random);
+    let [first, second] = [(); 2].map(|()| any_word(random, 64));
+    call.check(size, first, second).refusal
+}
+
 /// For each call, how often it answered each refusal number.
 #[derive(Default)]
 pub struct Tally([[u64; NUMBERS]; TARGETS.len()]);
@@ -182,11 +223,11 @@ impl Tally {
 
 impl Display for Tally {
     fn fmt(&self, f: &mut Formatter<'_>) -> fmt::Result {
-        write!(f, "{:<18} {:>9} |", "call", "calls")?;
+        write!(f, "{:<19} {:>9} |", "call", "calls")?;
         (0..NUMBERS).try_for_each(|number| write!(f, " {number:>8}"))?;
         for (target, counts) in zip(&TARGETS, &self.0) {
             let calls: u64 = counts.iter().sum();
-            write!(f, "\n{:<18} {calls:>9} |", target.name)?;
+            write!(f, "\n{:<19} {calls:>9} |", target.name)?;
             for (number, count) in counts.iter().enumerate() {
                 // A number that the call cannot answer is left out.
                 let shown = target.numbers.contains(&number) || *count > 0;

@@ -13,10 +13,14 @@ pub mod programs;
 pub mod refusals;
 pub mod samples;
 pub mod stack;
+pub mod tiles;
 pub mod unit;
 
 /// The accepted widths.
 pub const WIDTHS: [u32; 4] = [8, 16, 32, 64];
+
+/// The accepted sizes of subwords.
+pub const SIZES: [u32; 6] = [1, 2, 4, 8, 16, 32];
 
 /// A word with ones at bits 0 to `count` - 1; `count` is at most 64.
 pub fn low_ones(count: u32) -> u64 {

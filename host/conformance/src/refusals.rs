@@ -1,7 +1,7 @@
 //! What the tests of refused calls share.
 
 use crate::call::{By, Call};
-use crate::WIDTHS;
+use crate::{SIZES, WIDTHS};
 use model::refusal::Answer;
 use std::fmt::Debug;
 
@@ -26,6 +26,14 @@ const HUGE_WIDTHS: [u32; 12] = [
 pub fn other_widths() -> impl Iterator<Item = u32> {
     let widths = (0..=130).chain(HUGE_WIDTHS);
     widths.filter(|width| !WIDTHS.contains(width))
+}
+
+/// Sizes of subwords that are not accepted.
+pub fn other_sizes() -> impl Iterator<Item = u32> {
+    let cut = (8..32).flat_map(|p| SIZES.map(|size| size | 1 << p));
+    let above = (0..32).flat_map(|p| [1 << p, u32::MAX << p]);
+    let sizes = (0..=600).chain(cut).chain(above);
+    sizes.filter(|size| !SIZES.contains(size))
 }
 
 /// Checks that the calls are refused by this number, or carried out if it is 0.

@@ -49,6 +49,25 @@ const PLANES: &str = "\
     2726252423222120 2f2e2d2c2b2a2928 3736353433323130 3f3e3d3c3b3a3938\n\
     words: 81 30000 0 0 0 0 0 4000000000000000\n";
 
+/// What it prints of tiles, and of subwords.
+const TILES: &str = "\
+    tile_transpose 7f090909010100\n\
+    tile_turn_left fe909090808000\n\
+    tile_turn_right 1010909097f00\n\
+    tile_mirror_columns 202021e02027e\n\
+    tile_mirror_rows 7e40407840404000\n";
+const SUBWORDS: &str = "\
+    check 0 12e454c896acd88\n\
+    excheck 0 3d4c0123798889ab\n\
+    mix_left 0 122436485a6c7e8\n\
+    mix_right 0 89abcdef5b6a7988\n\
+    exchange 0 2138a9b4657cedf\n\
+    check 12 0\n\
+    excheck 12 0\n\
+    mix_left 12 0\n\
+    mix_right 12 0\n\
+    exchange 12 0\n";
+
 /// What it prints of the register unit.
 const UNIT: &str = "\
     ends 0 1 2\n\
@@ -163,9 +182,9 @@ fn expected() -> String {
         route_butterfly 4 0 0 0 0 0 0\n\
         route_inverse 4 0 0 0 0 0 0\n\
         permutation 0 4 2 3 1 5 6 7\n";
-    let layouts = layouts();
-    let numbers = numbers.concat();
-    format!("{layouts}numbers 0{numbers}\n{answers}{PREPARED}{PACKING}{PLANES}{UNIT}")
+    let numbers = format!("numbers 0{}\n", numbers.concat());
+    let calls = [PREPARED, PACKING, PLANES, TILES, SUBWORDS, UNIT];
+    layouts() + &numbers + answers + &calls.concat()
 }
 
 fn interface(begin: &[&str]) -> String {

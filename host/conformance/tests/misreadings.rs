@@ -1,14 +1,17 @@
 //! The misreadings that paper 01 warns of ("False splices"), and those of requests
-//! 01 to 03 of paper 02, the count of marked bits, the spare bits of packed words
-//! and bit planes: the library has none of them, and each would be seen. Group by a
-//! shift of 64 is among the laws and is row 13.
+//! 01 to 05 of paper 02, the count of marked bits, the spare bits of packed words,
+//! bit planes, the counts below, tiles and subwords: the library has none of them, and
+//! each would be seen. Group by a shift of 64 is among the laws and is row 13.
 
 use conformance::call::{decode, BUTTERFLY, GATHER, INVERSE, MASK_CALLS, NETWORKS, SCATTER};
+use conformance::call::{CHECK, EXCHANGE, EXCHECK, MIX_LEFT, MIX_RIGHT, PAIR_CALLS};
 use conformance::controls::{pass_all, reversed, stages, Controls};
 use conformance::packing::{clean_end, PACK, PACKING_CALLS, UNPACK};
 use conformance::planes::{Words, FROM_PLANES, TO_PLANES};
 use conformance::samples::{any_eight, for_each, Random};
-use conformance::{low_ones, WIDTHS};
+use conformance::tiles::{Movement, TRANSPOSE, TURN_LEFT, TURN_RIGHT};
+use conformance::tiles::{MIRROR_COLUMNS, MIRROR_ROWS};
+use conformance::{low_ones, SIZES, WIDTHS};
 use model::bits::word_of;
 use model::decoder::turned_left;
 use model::refusal::Answer;
@@ -371,4 +374,252 @@ fn the_way_back_is_not_the_way_there() {
     assert_eq!(FROM_PLANES.check(PLANES_OF_THEM), BYTES_0_AND_10);
     assert_ne!(TO_PLANES.check(PLANES_OF_THEM), BYTES_0_AND_10);
     assert_ne!(FROM_PLANES.check(BYTES_0_AND_10), PLANES_OF_THEM);
+}
+
+/// An F that is upright where row 0 is on top and column 7 at the left. No movement
+/// leaves it as it is, and no two do the same to it.
+const LETTER: u64 = 0x0040_4040_7840_407E;
+
+/// The bit of a tile that is row r, column c.
+type Dot = fn(usize, usize) -> usize;
+
+/// "row r is byte r counted from the right", "column c is line c of that byte"
+const DOT: Dot = |r, c| 8 * r + c;
+
+/// Where row r, column c goes.
+type Rule = fn(usize, usize) -> (usize, usize);
+
+/// The calls with their rules.
+const RULES: [(Movement, Rule); 5] = [
+    (TRANSPOSE, |r, c| (c, r)),
+    (TURN_LEFT, |r, c| (c, 7 - r)),
+    (TURN_RIGHT, |r, c| (7 - c, r)),
+    (MIRROR_COLUMNS, |r, c| (r, 7 - c)),
+    (MIRROR_ROWS, |r, c| (7 - r, c)),
+];
+
+/// What a rule makes of the letter, by this reading of rows and columns.
+fn moved_by(dot: Dot, rule: Rule) -> u64 {
+    let places = (0..8).flat_map(|r| (0..8).map(move |c| (r, c)));
+    places.fold(0, |moved, (r, c)| {
+        let (row, column) = rule(r, c);
+        moved | (LETTER >> dot(r, c) & 1) << dot(row, column)
+    })
+}
+
+/// Checks that the calls go by the one reading of rows and columns, and that the other
+/// would be seen in those of these numbers.
+fn assert_not_so_placed(misread: Dot, seen: &[usize]) {
+    for (number, (call, rule)) in RULES.into_iter().enumerate() {
+        let moved = call.check(LETTER);
+        assert_eq!(moved, moved_by(DOT, rule), "{}", call.name);
+        let differs = moved != moved_by(misread, rule);
+        assert_eq!(differs, seen.contains(&number), "{}", call.name);
+    }
+}
+
+/// "row 0 on top", and not at the bottom. A mirror is the same from either end.
+#[test]
+fn row_0_is_not_at_the_bottom() {
+    assert_not_so_placed(|r, c| DOT(7 - r, c), &[0, 1, 2]);
+}
+
+/// "column 7 at the left", and not at the right.
+#[test]
+fn column_7_is_not_at_the_right() {
+    assert_not_so_placed(|r, c| DOT(r, 7 - c), &[0, 1, 2]);
+}
+
+/// Row r is a byte, and not bit r of every byte. To transpose is the same by both.
+#[test]
+fn rows_are_not_columns() {
+    assert_not_so_placed(|r, c| DOT(c, r), &[1, 2, 3, 4]);
+}
+
+/// No call goes by the rule of another, such as the left turn by the right one's.
+#[test]
+fn movements_are_not_exchanged() {
+    for (number, (call, _)) in RULES.into_iter().enumerate() {
+        for (other, (_, rule)) in RULES.into_iter().enumerate() {
+            let alike = call.check(LETTER) == moved_by(DOT, rule);
+            assert_eq!(alike, number == other, "{}", call.name);
+        }
+    }
+}
+
+/// "Row r, column c goes to": read as where it comes from, either turn would be the
+/// other.
+#[test]
+fn a_rule_says_where_a_bit_goes() {
+    for (number, (call, rule)) in RULES.into_iter().enumerate() {
+        let places = (0..8).flat_map(|r| (0..8).map(move |c| (r, c)));
+        let misread = places.fold(0, |moved, (r, c)| {
+            let (row, column) = rule(r, c);
+            moved | (LETTER >> DOT(row, column) & 1) << DOT(r, c)
+        });
+        let alike = call.check(LETTER) == misread;
+        assert_eq!(alike, ![1, 2].contains(&number), "{}", call.name);
+    }
+}
+
+/// "to row c, column r in transpose": the diagonal that stays is that of row 0, column
+/// 0, at the top right, and not the one from the top left.
+#[test]
+fn transpose_does_not_keep_the_top_left() {
+    let top_left = 1 << DOT(0, 7);
+    assert_eq!(TRANSPOSE.check(1), 1);
+    assert_ne!(TRANSPOSE.check(top_left), top_left);
+    assert_ne!(
+        TRANSPOSE.check(LETTER),
+        moved_by(DOT, |r, c| (7 - c, 7 - r))
+    );
+}
+
+/// R1 and R2 of document 002's tables: the leftmost letter is that of the highest byte.
+const SMALL: u64 = u64::from_be_bytes(*b"abcdefgh");
+const CAPITAL: u64 = u64::from_be_bytes(*b"ABCDEFGH");
+
+/// What the calls of two words make of them, and exchange of the first, at size 8.
+fn made_of_letters() -> [[u8; 8]; 5] {
+    let [checked, exchecked, left, right] = PAIR_CALLS.map(|call| call.result(8, SMALL, CAPITAL));
+    let exchanged = EXCHANGE.result(8, SMALL, ());
+    [checked, exchecked, left, right, exchanged].map(u64::to_be_bytes)
+}
+
+/// Checks that the calls make the letters of the tables, and that by another reading
+/// they would make these, each of them another or, in exchange, the same.
+fn assert_not_made_so(misread: [&[u8; 8]; 4], exchanged: &[u8; 8]) {
+    let made = made_of_letters();
+    let tables = [b"aBcDeFgH", b"BaDcFeHg", b"aAcCeEgG", b"bBdDfFhH"];
+    for i in 0..4 {
+        assert_eq!(made[i], *tables[i]);
+        assert_ne!(made[i], *misread[i]);
+    }
+    assert_eq!(made[4], *b"badcfehg");
+    assert_eq!(made[4], *exchanged);
+}
+
+/// "Letter a of that paper's tables is the leftmost subword": were it the rightmost,
+/// subwords would be counted from the right, 0 here being h.
+#[test]
+fn letter_a_is_not_the_rightmost() {
+    assert_not_made_so(
+        [b"AbCdEfGh", b"bAdCfEhG", b"BbDdFfHh", b"AaCcEeGg"],
+        b"badcfehg",
+    );
+}
+
+/// "even" are numbers 0, 2, ..: counted from 1 they would be odd.
+#[test]
+fn subwords_are_not_counted_from_1() {
+    assert_not_made_so(
+        [b"AbCdEfGh", b"bAdCfEhG", b"bBdDfFhH", b"aAcCeEgG"],
+        b"badcfehg",
+    );
+}
+
+/// R1 is the first word.
+#[test]
+fn first_and_second_are_not_exchanged() {
+    assert_not_made_so(
+        [b"AbCdEfGh", b"bAdCfEhG", b"AaCcEeGg", b"BbDdFfHh"],
+        b"badcfehg",
+    );
+}
+
+/// mixL interleaves "the corresponding "even" elements", and not the left halves, as a
+/// merging step of document 000 does; mixR not the right ones.
+#[test]
+fn mix_does_not_interleave_halves() {
+    for (size, mixed) in [(8, b"aAbBcCdD"), (16, b"abABcdCD"), (32, b"abcdABCD")] {
+        let left = MIX_LEFT.result(size, SMALL, CAPITAL).to_be_bytes();
+        assert_eq!(left == *mixed, size == 32);
+    }
+    for (size, mixed) in [(8, b"eEfFgGhH"), (16, b"efEFghGH"), (32, b"efghEFGH")] {
+        let right = MIX_RIGHT.result(size, SMALL, CAPITAL).to_be_bytes();
+        assert_eq!(right == *mixed, size == 32);
+    }
+}
+
+/// "a check on the two source registers, followed by an exchange": and not the other way
+/// round, of either word.
+#[test]
+fn excheck_does_not_exchange_first() {
+    for size in SIZES {
+        let [small, capital] = [SMALL, CAPITAL].map(|word| EXCHANGE.result(size, word, ()));
+        let misread = CHECK.result(size, small, capital);
+        assert_ne!(EXCHECK.result(size, SMALL, CAPITAL), misread);
+    }
+}
+
+/// "it swaps adjacent subwords in each pair": they are not rotated nor reversed, which
+/// is the same for two subwords alone.
+#[test]
+fn exchange_does_not_rotate_or_reverse() {
+    let word = 0x0123_4567_89AB_CDEF_u64;
+    for size in SIZES {
+        let exchanged = EXCHANGE.result(size, word, ());
+        assert_eq!(exchanged == word.rotate_left(size), size == 32);
+        let parts = (0..64 / size).map(|i| word >> (size * i) & low_ones(size));
+        let reversed = parts.fold(0, |word, part| word << size | part);
+        assert_eq!(exchanged == reversed, size == 32);
+    }
+}
+
+/// The bits of a subword keep their order.
+#[test]
+fn subwords_are_not_reversed() {
+    let exchanged = EXCHANGE.result(8, SMALL, ());
+    let misread = exchanged.to_be_bytes().map(u8::reverse_bits);
+    assert_ne!(exchanged.to_be_bytes(), misread);
+}
+
+/// "1, 2, 4, 8, 16 and 32 bits": in bytes, or as how many subwords a word has, the
+/// same number would be another size; as a logarithm 0, 3 and 5 would be sizes.
+#[test]
+fn a_size_is_in_bits() {
+    for call in PAIR_CALLS {
+        for size in [1, 2, 4] {
+            let in_bytes = call.result(8 * size, SMALL, CAPITAL);
+            assert_ne!(call.result(size, SMALL, CAPITAL), in_bytes);
+        }
+        for size in [2, 4, 8, 16, 32] {
+            let as_count = call.result(64 / size, SMALL, CAPITAL);
+            let alike = call.result(size, SMALL, CAPITAL) == as_count;
+            assert_eq!(alike, size == 8, "{} {size}", call.name);
+        }
+        for logarithm in [0, 3, 5] {
+            let answer = call.check(logarithm, SMALL, CAPITAL);
+            assert_eq!(answer, Answer::refused(12));
+        }
+    }
+}
+
+/// A whole word has no other subword beside it: 64 is none of the sizes, though it is
+/// a width.
+#[test]
+fn a_whole_word_is_no_subword() {
+    for call in PAIR_CALLS {
+        assert_eq!(call.check(64, SMALL, CAPITAL), Answer::refused(12));
+    }
+    assert_eq!(EXCHANGE.check(64, SMALL, ()), Answer::refused(12));
+}
+
+/// "12, another subword size": and not 1, which is another width; 1, 2 and 4 are no
+/// widths.
+#[test]
+fn a_size_is_not_a_width() {
+    for size in [1, 2, 4] {
+        assert!(!WIDTHS.contains(&size));
+        for call in PAIR_CALLS {
+            assert_eq!(call.check(size, SMALL, CAPITAL).refusal, 0);
+        }
+        assert_eq!(EXCHANGE.check(size, SMALL, ()).refusal, 0);
+    }
+    for size in [0, 12, 128] {
+        for call in PAIR_CALLS {
+            assert_eq!(call.check(size, SMALL, CAPITAL).refusal, 12);
+        }
+        assert_eq!(EXCHANGE.check(size, SMALL, ()).refusal, 12);
+    }
 }

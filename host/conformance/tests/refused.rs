@@ -1,9 +1,9 @@
 //! Damaged inputs get the lowest number that applies, and zeros for the rest.
 
-use conformance::call::{DECODE, MASK_CALLS, NETWORKS, PREPARE};
+use conformance::call::{DECODE, EXCHANGE, MASK_CALLS, NETWORKS, PAIR_CALLS, PREPARE};
 use conformance::controls::{pass_all, stages, Controls};
-use conformance::refusals::{assert_number, other_widths};
-use conformance::{low_ones, WIDTHS};
+use conformance::refusals::{assert_number, other_sizes, other_widths};
+use conformance::{low_ones, SIZES, WIDTHS};
 use model::gather::Gathered;
 
 /// Words and masks below, at and above each accepted width.
@@ -188,6 +188,33 @@ fn each_unused_stage_is_refusal_3_whatever_its_bits() {
                 controls[stage] = bits;
                 assert_number(&NETWORKS, 3, width, controls, 0xAD);
                 assert_number(&PREPARE, 3, width, controls, ());
+            }
+        }
+    }
+}
+
+/// Request 05 of paper 02: "12, another subword size".
+#[test]
+fn every_other_size_is_refusal_12_whatever_the_words() {
+    for size in other_sizes() {
+        for first in WORDS {
+            assert_number(&[EXCHANGE], 12, size, first, ());
+            for second in WORDS {
+                assert_number(&PAIR_CALLS, 12, size, first, second);
+            }
+        }
+    }
+}
+
+/// Each size is of subwords of any word: no bit lies above it.
+#[test]
+fn no_word_is_refused_at_any_size() {
+    for size in SIZES {
+        for first in WORDS.into_iter().chain((0..64).map(|p| 1 << p)) {
+            assert_number(&[EXCHANGE], 0, size, first, ());
+            for second in WORDS {
+                assert_number(&PAIR_CALLS, 0, size, first, second);
+                assert_number(&PAIR_CALLS, 0, size, second, first);
             }
         }
     }

@@ -2,7 +2,7 @@
 //! With `--nocapture` the bytes are printed.
 
 use conformance::arbitrary::{controls, cut, list, operation, permutation};
-use conformance::arbitrary::{register, widths, word};
+use conformance::arbitrary::{register, size, widths, word};
 use conformance::packing::{clean_end, LONGEST};
 use conformance::permutations::{one_loop, FIXED};
 use conformance::planes::Words;
@@ -15,9 +15,11 @@ use model::routing::valid_stage;
 use std::hint::black_box;
 use std::thread;
 use tigbayon::{
-    tb_butterfly, tb_butterfly_prepared, tb_decode, tb_from_planes, tb_gather, tb_group,
-    tb_inverse, tb_inverse_prepared, tb_operate, tb_pack, tb_prepare_butterfly, tb_prepare_inverse,
-    tb_read, tb_route, tb_route_butterfly, tb_route_inverse, tb_run, tb_scatter, tb_to_planes,
+    tb_butterfly, tb_butterfly_prepared, tb_check, tb_decode, tb_exchange, tb_excheck,
+    tb_from_planes, tb_gather, tb_group, tb_inverse, tb_inverse_prepared, tb_mix_left,
+    tb_mix_right, tb_operate, tb_pack, tb_prepare_butterfly, tb_prepare_inverse, tb_read, tb_route,
+    tb_route_butterfly, tb_route_inverse, tb_run, tb_scatter, tb_tile_mirror_columns,
+    tb_tile_mirror_rows, tb_tile_transpose, tb_tile_turn_left, tb_tile_turn_right, tb_to_planes,
     tb_unpack, tb_write, TbCarried, TbGathered, TbPacked, TbPlanes, TbPrepared,
 };
 
@@ -47,7 +49,7 @@ impl Gauge {
 /// Measures a call once on each sort of input.
 type Measure = fn(&mut Gauge);
 
-const CALLS: [(&str, Measure); 22] = [
+const CALLS: [(&str, Measure); 32] = [
     ("(none)", |gauge| gauge.measure(|| ())),
     ("tb_gather", |gauge| masked(gauge, tb_gather)),
     ("tb_scatter", |gauge| masked(gauge, tb_scatter)),
@@ -80,6 +82,26 @@ const CALLS: [(&str, Measure); 22] = [
     ("tb_unpack", |gauge| packed(gauge, tb_unpack)),
     ("tb_to_planes", |gauge| converted(gauge, tb_to_planes)),
     ("tb_from_planes", |gauge| converted(gauge, tb_from_planes)),
+    ("tb_tile_transpose", |gauge| moved(gauge, tb_tile_transpose)),
+    ("tb_tile_turn_left", |gauge| moved(gauge, tb_tile_turn_left)),
+    ("tb_tile_turn_right", |gauge| {
+        moved(gauge, tb_tile_turn_right)
+    }),
+    ("tb_tile_mirror_columns", |gauge| {
+        moved(gauge, tb_tile_mirror_columns)
+    }),
+    ("tb_tile_mirror_rows", |gauge| {
+        moved(gauge, tb_tile_mirror_rows)
+    }),
+    ("tb_check", |gauge| paired(gauge, tb_check)),
+    ("tb_excheck", |gauge| paired(gauge, tb_excheck)),
+    ("tb_mix_left", |gauge| paired(gauge, tb_mix_left)),
+    ("tb_mix_right", |gauge| paired(gauge, tb_mix_right)),
+    ("tb_exchange", |gauge| {
+        let size = size(&mut gauge.random);
+        let word = word(&mut gauge.random, 64);
+        gauge.measure(|| tb_exchange(size, word));
+    }),
     ("tb_operate", |gauge| {
         let [kind, r1, r2, r3] = operation(&mut gauge.random);
         let mut bank = lent(&bank(&mut gauge.random));
@@ -159,6 +181,17 @@ fn packed(gauge: &mut Gauge, call: impl Fn(u64, &[u64], usize, usize, &mut [u64]
 fn converted(gauge: &mut Gauge, call: extern "C" fn(&Words) -> TbPlanes) {
     let words = any_eight(&mut gauge.random);
     gauge.measure(|| call(&words));
+}
+
+fn moved(gauge: &mut Gauge, call: extern "C" fn(u64) -> u64) {
+    let tile = word(&mut gauge.random, 64);
+    gauge.measure(|| call(tile));
+}
+
+fn paired(gauge: &mut Gauge, call: extern "C" fn(u32, u64, u64) -> TbCarried) {
+    let size = size(&mut gauge.random);
+    let [first, second] = [(); 2].map(|()| word(&mut gauge.random, 64));
+    gauge.measure(|| call(size, first, second));
 }
 
 /// Measured on a thread, so that the stack is a fresh one.

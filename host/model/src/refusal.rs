@@ -1,5 +1,5 @@
-//! Refused calls ("Calls turned back" of paper 01, request 02 of paper 02): the
-//! numbers, and the lowest of them.
+//! Refused calls ("Calls turned back" of paper 01, requests 02 and 05 of paper 02):
+//! the numbers, and the lowest of them.
 
 /// The answer's number where the call is carried out.
 pub const NONE: u8 = 0;
@@ -27,6 +27,8 @@ pub const RANGE: u8 = 9;
 pub const SHORT: u8 = 10;
 /// Paper 02: "a spare bit is one"
 pub const SPARE: u8 = 11;
+/// Paper 02: "another subword size"
+pub const SUBWORD: u8 = 12;
 
 /// The answer of a call.
 #[derive(Clone, Copy, Debug, PartialEq, Eq)]

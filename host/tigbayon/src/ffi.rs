@@ -15,7 +15,7 @@ pub struct TbGathered {
     pub word: u64,
 }
 
-/// The answer of both networks.
+/// The answer of both networks, and of the calls on subwords.
 #[repr(C)]
 #[derive(Clone, Copy, Debug, PartialEq, Eq)]
 pub struct TbCarried {
@@ -217,6 +217,26 @@ unsafe extern "C" {
     pub safe fn tb_to_planes(words: &[u64; 8]) -> TbPlanes;
     /// See [`crate::from_planes()`].
     pub safe fn tb_from_planes(planes: &[u64; 8]) -> TbPlanes;
+    /// See [`crate::tile_transpose()`].
+    pub safe fn tb_tile_transpose(tile: u64) -> u64;
+    /// See [`crate::tile_turn_left()`].
+    pub safe fn tb_tile_turn_left(tile: u64) -> u64;
+    /// See [`crate::tile_turn_right()`].
+    pub safe fn tb_tile_turn_right(tile: u64) -> u64;
+    /// See [`crate::tile_mirror_columns()`].
+    pub safe fn tb_tile_mirror_columns(tile: u64) -> u64;
+    /// See [`crate::tile_mirror_rows()`].
+    pub safe fn tb_tile_mirror_rows(tile: u64) -> u64;
+    /// See [`crate::check()`].
+    pub safe fn tb_check(size: u32, first: u64, second: u64) -> TbCarried;
+    /// See [`crate::excheck()`].
+    pub safe fn tb_excheck(size: u32, first: u64, second: u64) -> TbCarried;
+    /// See [`crate::mix_left()`].
+    pub safe fn tb_mix_left(size: u32, first: u64, second: u64) -> TbCarried;
+    /// See [`crate::mix_right()`].
+    pub safe fn tb_mix_right(size: u32, first: u64, second: u64) -> TbCarried;
+    /// See [`crate::exchange()`].
+    pub safe fn tb_exchange(size: u32, word: u64) -> TbCarried;
     /// See [`crate::Bank::operate()`].
     pub safe fn tb_operate(bank: &mut TbBank, kind: u8, r1: u8, r2: u8, r3: u8) -> TbCycles;
     /// See [`crate::Bank::read()`].

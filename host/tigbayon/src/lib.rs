@@ -7,10 +7,12 @@
 //! [`PreparedButterfly`] or [`PreparedInverse`] is a network prepared once for
 //! many words. Packing goes from one list of words of width 64 into another, each
 //! of at most 2,048. Sixty-four bytes, in eight words, go to eight bit planes by
-//! [`to_planes`], and back by [`from_planes`]. A [`Bank`] holds the registers of a
-//! unit that performs lists of operations of width 64. Each function here is
-//! answered for every input: with its result, or with the lowest [`Refusal`] that
-//! applies.
+//! [`to_planes`], and back by [`from_planes`]. A tile is a word of 8 by 8 bits, which
+//! [`tile_turn_left`] and its like move by row and column. [`check`], [`excheck`],
+//! [`mix_left`], [`mix_right`] and [`exchange`] move subwords of 1, 2, 4, 8, 16 or
+//! 32 bits. A [`Bank`] holds the registers of a unit that performs lists of
+//! operations of width 64. Each function here is answered for every input: with its
+//! result, or with the lowest [`Refusal`] that applies.
 
 mod ffi;
 mod gather;
@@ -20,13 +22,17 @@ mod planes;
 mod prepared;
 mod refusal;
 mod routing;
+mod subwords;
+mod tiles;
 mod unit;
 
 #[doc(hidden)]
 pub use ffi::{
-    tb_butterfly, tb_butterfly_prepared, tb_decode, tb_from_planes, tb_gather, tb_group,
-    tb_inverse, tb_inverse_prepared, tb_operate, tb_pack, tb_prepare_butterfly, tb_prepare_inverse,
-    tb_read, tb_route, tb_route_butterfly, tb_route_inverse, tb_run, tb_scatter, tb_to_planes,
+    tb_butterfly, tb_butterfly_prepared, tb_check, tb_decode, tb_exchange, tb_excheck,
+    tb_from_planes, tb_gather, tb_group, tb_inverse, tb_inverse_prepared, tb_mix_left,
+    tb_mix_right, tb_operate, tb_pack, tb_prepare_butterfly, tb_prepare_inverse, tb_read, tb_route,
+    tb_route_butterfly, tb_route_inverse, tb_run, tb_scatter, tb_tile_mirror_columns,
+    tb_tile_mirror_rows, tb_tile_transpose, tb_tile_turn_left, tb_tile_turn_right, tb_to_planes,
     tb_unpack, tb_write, TbBank, TbCarried, TbControls1, TbControls2, TbCycles, TbGathered,
     TbPacked, TbPlanes, TbPrepared, TbRegister, TbRun,
 };
@@ -37,4 +43,8 @@ pub use planes::{from_planes, to_planes};
 pub use prepared::{PreparedButterfly, PreparedInverse};
 pub use refusal::Refusal;
 pub use routing::{route, route_butterfly, route_inverse, Routed};
+pub use subwords::{check, exchange, excheck, mix_left, mix_right};
+pub use tiles::{
+    tile_mirror_columns, tile_mirror_rows, tile_transpose, tile_turn_left, tile_turn_right,
+};
 pub use unit::{Bank, End, Run};

@@ -33,11 +33,13 @@ pub enum Refusal {
     Short = 10,
     /// A spare bit of the last packed word read is one.
     Spare = 11,
+    /// The subword size is not 1, 2, 4, 8, 16 or 32.
+    Subword = 12,
 }
 
 impl Refusal {
     /// Every refusal, by rising number.
-    pub const ALL: [Refusal; 11] = [
+    pub const ALL: [Refusal; 12] = [
         Refusal::Width,
         Refusal::Above,
         Refusal::Unused,
@@ -49,6 +51,7 @@ impl Refusal {
         Refusal::Range,
         Refusal::Short,
         Refusal::Spare,
+        Refusal::Subword,
     ];
 
     /// The number, which is part of the interface.
@@ -75,6 +78,7 @@ impl Refusal {
             Refusal::Range => "range not within its words, or a list above 2,048 words",
             Refusal::Short => "other list of words shorter than its bits need",
             Refusal::Spare => "spare bit of the last packed word read is one",
+            Refusal::Subword => "subword size not 1, 2, 4, 8, 16, 32",
         }
     }
 

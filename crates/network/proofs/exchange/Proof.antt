@@ -1,4 +1,6 @@
 -- `network::exchange` meets its contract. Assumes nothing.
+use mathlib.Core.Path.{_∙_, ap}
+use Prim.Native.Nat.{ℕ}
 use Rattle.network.specs.Word.{exchangeOf}
 use Rattle.network.proofs.Table.{distance-at}
 use Rattle.network.proofs.TableSteps.{distance-lt}
@@ -12,15 +14,11 @@ mul-distance c = search needs
 array-read-distance : tie.Need-array-read-distance
 array-read-distance c = search needs
 
-shr-differ : tie.Need-shr-differ
-shr-differ c = distance-lt (c .args .index) (search needs)
-
-shl-result : tie.Need-shl-result
-shl-result c = distance-lt (c .args .index) (search needs)
+exchange-marked-requires : tie.Need-exchange-marked-requires
+exchange-marked-requires c κs = distance-lt (c .args .index) (search needs)
 
 returns : tie.Need-returns
-unfolding exchangeOf
-returns c = rw (distance-at (c .args .index) (search needs))
+returns c = let a = c .before .args in c .exchange-marked .ensures ∙ ap (λ (d : ℕ). exchangeOf d (a .swaps) (a .word)) (distance-at (a .index) (search needs))
 
 pub exchange-spec : {M : Type 1} → statement M
-exchange-spec = tie.close (tie.spec mul-distance array-read-distance shr-differ shl-result returns)
+exchange-spec = tie.close (tie.spec mul-distance array-read-distance exchange-marked-requires returns)

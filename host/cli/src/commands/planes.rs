@@ -5,15 +5,13 @@ use crate::args::{unexpected, Given};
 use crate::command::{Argument, Choice, Command, Example};
 use crate::failure::Failure;
 use crate::number::{hex_list, Base};
+use crate::picture::{side_by_side, Picture};
 
 const WORDS: &str = "WORDS..";
 const PLANES_GIVEN: &str = "PLANES..";
 
 /// The options that draw planes: all of them, or one.
 const DRAWN: [&str; 2] = ["--text", "--plane"];
-
-/// The characters of a bit that is zero, and of one that is one.
-const DOTS: [char; 2] = ['.', '#'];
 
 const NOTES: &str = "\
 Byte n is byte n % 8 of word n / 8, byte 0 of a word being its lowest eight bits. Bit n
@@ -137,20 +135,14 @@ fn plane(given: &Given) -> Result<Option<usize>, Failure> {
 
 /// These planes in characters, side by side.
 fn drawn(planes: &[u64; 8], numbers: &[usize]) -> String {
-    let line = |parts: Vec<String>| parts.join("  ").trim_end().to_string() + "\n";
-    let named = numbers
-        .iter()
-        .map(|p| format!("{:<8}", format!("plane {p}")));
-    let mut lines = line(named.collect());
-    for k in 0..8 {
-        let rows = numbers.iter().map(|&p| row(planes[p], k));
-        lines += &line(rows.collect());
-    }
-    lines
+    let pictures = numbers.iter().map(|&p| Picture {
+        name: format!("plane {p}"),
+        rows: rows(planes[p]),
+    });
+    side_by_side(&Vec::from_iter(pictures))
 }
 
-/// The bits of the bytes of word k, byte 0 first.
-fn row(plane: u64, k: usize) -> String {
-    let bits = (8 * k..8 * k + 8).map(|n| plane >> n & 1);
-    bits.map(|bit| DOTS[bit as usize]).collect()
+/// Row k has the bits of the bytes of word k, byte 0 at the left.
+fn rows(plane: u64) -> [u8; 8] {
+    plane.to_le_bytes().map(u8::reverse_bits)
 }

@@ -188,6 +188,34 @@ static void print_planes(void)
     print_words(words, 8);
 }
 
+static void print_tiles(void)
+{
+    const uint64_t tile = 0x004040407840407E;
+
+    printf("tile_transpose %" PRIx64 "\n", tb_tile_transpose(tile));
+    printf("tile_turn_left %" PRIx64 "\n", tb_tile_turn_left(tile));
+    printf("tile_turn_right %" PRIx64 "\n", tb_tile_turn_right(tile));
+    printf("tile_mirror_columns %" PRIx64 "\n", tb_tile_mirror_columns(tile));
+    printf("tile_mirror_rows %" PRIx64 "\n", tb_tile_mirror_rows(tile));
+}
+
+static void print_subwords(void)
+{
+    const uint64_t first = 0x0123456789ABCDEF;
+    const uint64_t second = 0x1F2E3D4C5B6A7988;
+
+    print_carried("check", tb_check(8, first, second));
+    print_carried("excheck", tb_excheck(16, first, second));
+    print_carried("mix_left", tb_mix_left(4, first, second));
+    print_carried("mix_right", tb_mix_right(32, first, second));
+    print_carried("exchange", tb_exchange(1, first));
+    print_carried("check", tb_check(64, first, second));
+    print_carried("excheck", tb_excheck(0, first, second));
+    print_carried("mix_left", tb_mix_left(3, first, second));
+    print_carried("mix_right", tb_mix_right(UINT32_MAX, first, second));
+    print_carried("exchange", tb_exchange(12, first));
+}
+
 static void print_run(TbRun answer, const TbBank *bank)
 {
     printf("run %u %u %" PRIu32 " %" PRIu32 ": %" PRIx64 "\n", (unsigned)answer.refusal,
@@ -244,10 +272,10 @@ int main(void)
     const TbControls2 decoded = tb_decode(8, 0xAD);
 
     print_layouts();
-    printf("numbers %d %d %d %d %d %d %d %d %d %d %d %d\n", TB_CARRIED_OUT, TB_REFUSAL_WIDTH,
+    printf("numbers %d %d %d %d %d %d %d %d %d %d %d %d %d\n", TB_CARRIED_OUT, TB_REFUSAL_WIDTH,
            TB_REFUSAL_ABOVE, TB_REFUSAL_UNUSED, TB_REFUSAL_LENGTH, TB_REFUSAL_ENTRY,
            TB_REFUSAL_NOT_REALISED, TB_REFUSAL_KIND, TB_REFUSAL_REGISTER, TB_REFUSAL_RANGE,
-           TB_REFUSAL_SHORT, TB_REFUSAL_SPARE);
+           TB_REFUSAL_SHORT, TB_REFUSAL_SPARE, TB_REFUSAL_SUBWORD);
     print_gathered("gather", tb_gather(8, 0xAD, 0xB6));
     print_gathered("scatter", tb_scatter(8, 0xAD, 0x1A));
     print_gathered("group", tb_group(8, 0xAD, 0xB6));
@@ -267,6 +295,8 @@ int main(void)
     print_prepared(decoded);
     print_packing();
     print_planes();
+    print_tiles();
+    print_subwords();
     print_unit();
     return 0;
 }

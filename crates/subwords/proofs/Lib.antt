@@ -1,0 +1,4 @@
+pub mod Weaving
+pub mod Sizes
+pub mod Words
+pub mod Theorems

@@ -1,0 +1,2 @@
+pub mod Subword
+pub mod Halves

@@ -1,0 +1,5 @@
+pub mod PutOnce
+pub mod Moves
+pub mod MarkedPlaces
+pub mod Theorems
+pub mod Mirrors
