@@ -47,10 +47,22 @@ impl<I: 'static, O: Debug + PartialEq> Contest<I, O> {
 
     /// Beside the others a peer, which must answer as the library does.
     pub fn peer(self, name: &'static str, call: impl Fn(&I) -> O + 'static) -> Self {
+        self.assert_same(name, &call);
+        self.beside(name, move |input| apart(&call, input))
+    }
+
+    /// A peer behind a pointer, as the library is here: where both calls are of one
+    /// type, one timing loop serves both. For calls of a few cycles, whose times hang
+    /// on where the loop lies.
+    pub fn alike(self, name: &'static str, call: impl Fn(&I) -> O + 'static) -> Self {
+        self.assert_same(name, &call);
+        self.beside(name, call)
+    }
+
+    fn assert_same(&self, name: &str, call: &impl Fn(&I) -> O) {
         for (input, output) in zip(&*self.inputs, &self.outputs) {
             assert_eq!(call(input), *output, "{name} answers as the library does");
         }
-        self.beside(name, move |input| apart(&call, input))
     }
 
     /// The same, where there is such a peer.

@@ -7,69 +7,58 @@ use tigbayon::{
     tb_tile_turn_right,
 };
 
-/// A call of the library, of a tile.
+/// A call of a tile, the library's or a peer's.
 pub type OfTile = extern "C" fn(u64) -> u64;
 
 /// Transpose beside its peers.
 pub fn transpose(name: &str) {
-    beside(tb_tile_transpose, "Hacker's Delight transpose8", by_masks)
+    Contest::of(Random::word, through(tb_tile_transpose))
+        .alike("Hacker's Delight transpose8", through(by_masks))
         .within(1.0)
-        .peer("delta swaps", |&tile| by_swaps(tile))
-        .peer("bit loop", |&tile| transpose_by_loop(tile))
+        .alike("delta swaps", through(transpose_by_swaps))
+        .alike("bit loop", through(transpose_by_loop))
         .print(name);
 }
 
 /// The turn to the left beside its peers.
 pub fn turn_left(name: &str) {
-    beside(
-        tb_tile_turn_left,
-        "bytes swapped, delta swaps",
-        left_by_swaps,
-    )
-    .peer("bytes swapped, transpose8", |&tile| left_by_masks(tile))
-    .print(name);
+    Contest::of(Random::word, through(tb_tile_turn_left))
+        .alike("bytes swapped, delta swaps", through(left_by_swaps))
+        .alike("bytes swapped, transpose8", through(left_by_masks))
+        .print(name);
 }
 
 /// The turn to the right beside its peers.
 pub fn turn_right(name: &str) {
-    beside(
-        tb_tile_turn_right,
-        "delta swaps, bytes swapped",
-        right_by_swaps,
-    )
-    .peer("transpose8, bytes swapped", |&tile| right_by_masks(tile))
-    .print(name);
+    Contest::of(Random::word, through(tb_tile_turn_right))
+        .alike("delta swaps, bytes swapped", through(right_by_swaps))
+        .alike("transpose8, bytes swapped", through(right_by_masks))
+        .print(name);
 }
 
 /// The columns mirrored beside their peers.
 pub fn mirror_columns(name: &str) {
-    beside(
-        tb_tile_mirror_columns,
-        "bits reversed, bytes swapped",
-        columns_by_reversal,
-    )
-    .peer("three exchanges", |&tile| columns_by_exchanges(tile))
-    .print(name);
+    Contest::of(Random::word, through(tb_tile_mirror_columns))
+        .alike("bits reversed, bytes swapped", through(columns_by_reversal))
+        .alike("three exchanges", through(columns_by_exchanges))
+        .print(name);
 }
 
 /// The rows mirrored beside the one instruction.
 pub fn mirror_rows(name: &str) {
-    beside(tb_tile_mirror_rows, "bytes swapped", u64::swap_bytes).print(name);
+    Contest::of(Random::word, through(tb_tile_mirror_rows))
+        .alike("bytes swapped", through(rows_by_swap))
+        .print(name);
 }
 
-/// The library's call beside a peer, which is of a type of its own, so that nothing
-/// is called through a pointer.
-fn beside(
-    library: OfTile,
-    by: &'static str,
-    peer: impl Fn(u64) -> u64 + 'static,
-) -> Contest<u64, u64> {
-    Contest::of(Random::word, move |&tile| library(tile)).peer(by, move |&tile| peer(tile))
+/// The call through its pointer: of one type, whichever it is.
+fn through(call: OfTile) -> impl Fn(&u64) -> u64 {
+    move |&tile| call(tile)
 }
 
 /// Hacker's Delight, Section 7-3: bits, then pairs of them, then fours change places
 /// across the diagonal, by masks of those that stay, go up and go down.
-fn by_masks(tile: u64) -> u64 {
+extern "C" fn by_masks(tile: u64) -> u64 {
     let tile = tile & 0xAA55_AA55_AA55_AA55
         | (tile & 0x00AA_00AA_00AA_00AA) << 7
         | tile >> 7 & 0x00AA_00AA_00AA_00AA;
@@ -94,7 +83,11 @@ pub fn by_swaps(tile: u64) -> u64 {
     })
 }
 
-fn transpose_by_loop(tile: u64) -> u64 {
+extern "C" fn transpose_by_swaps(tile: u64) -> u64 {
+    by_swaps(tile)
+}
+
+extern "C" fn transpose_by_loop(tile: u64) -> u64 {
     let mut transposed = 0;
     for r in 0..8 {
         for c in 0..8 {
@@ -105,29 +98,33 @@ fn transpose_by_loop(tile: u64) -> u64 {
 }
 
 /// Rows mirrored, then transposed.
-fn left_by_masks(tile: u64) -> u64 {
+extern "C" fn left_by_masks(tile: u64) -> u64 {
     by_masks(tile.swap_bytes())
 }
 
-fn left_by_swaps(tile: u64) -> u64 {
+extern "C" fn left_by_swaps(tile: u64) -> u64 {
     by_swaps(tile.swap_bytes())
 }
 
 /// Transposed, then rows mirrored.
-fn right_by_masks(tile: u64) -> u64 {
+extern "C" fn right_by_masks(tile: u64) -> u64 {
     by_masks(tile).swap_bytes()
 }
 
-fn right_by_swaps(tile: u64) -> u64 {
+extern "C" fn right_by_swaps(tile: u64) -> u64 {
     by_swaps(tile).swap_bytes()
 }
 
-fn columns_by_reversal(tile: u64) -> u64 {
+extern "C" fn columns_by_reversal(tile: u64) -> u64 {
     tile.reverse_bits().swap_bytes()
 }
 
+extern "C" fn rows_by_swap(tile: u64) -> u64 {
+    tile.swap_bytes()
+}
+
 /// Fours, then pairs, then bits of each byte change places.
-fn columns_by_exchanges(tile: u64) -> u64 {
+extern "C" fn columns_by_exchanges(tile: u64) -> u64 {
     let tile = tile >> 4 & 0x0F0F_0F0F_0F0F_0F0F | (tile & 0x0F0F_0F0F_0F0F_0F0F) << 4;
     let tile = tile >> 2 & 0x3333_3333_3333_3333 | (tile & 0x3333_3333_3333_3333) << 2;
     tile >> 1 & 0x5555_5555_5555_5555 | (tile & 0x5555_5555_5555_5555) << 1
@@ -140,14 +137,17 @@ mod tests {
     use conformance::tiles::{Movement, MIRROR_COLUMNS, MIRROR_ROWS};
     use conformance::tiles::{TRANSPOSE, TURN_LEFT, TURN_RIGHT};
 
-    type Peers = &'static [fn(u64) -> u64];
+    type Peers = &'static [OfTile];
 
     const PEERS: [(Movement, Peers); 5] = [
-        (TRANSPOSE, &[by_masks, by_swaps, transpose_by_loop]),
+        (
+            TRANSPOSE,
+            &[by_masks, transpose_by_swaps, transpose_by_loop],
+        ),
         (TURN_LEFT, &[left_by_masks, left_by_swaps]),
         (TURN_RIGHT, &[right_by_masks, right_by_swaps]),
         (MIRROR_COLUMNS, &[columns_by_reversal, columns_by_exchanges]),
-        (MIRROR_ROWS, &[u64::swap_bytes]),
+        (MIRROR_ROWS, &[rows_by_swap]),
     ];
 
     /// The answer of `check` is the model's.

@@ -4,6 +4,7 @@
 
 use conformance::planes::{turned_over, words_of, Words, FROM_PLANES, TO_PLANES};
 use conformance::samples::{any_eight, random_eight, Random};
+use conformance::BITWISE;
 use std::iter::zip;
 use tigbayon::{gather, scatter};
 
@@ -209,18 +210,13 @@ fn a_bit_turned_over_turns_over_its_own_alone() {
 /// done before or after.
 #[test]
 fn bits_are_only_moved() {
-    let operations: [fn(u64, u64) -> u64; 3] = [
-        |one, other| one & other,
-        |one, other| one | other,
-        |one, other| one ^ other,
-    ];
     let mut random = Random::default();
     for _ in 0..2_000 {
         let [one, other] = [(); 2].map(|()| any_eight(&mut random));
         for call in [TO_PLANES, FROM_PLANES] {
             let [moved, other_moved] = [one, other].map(|words| call.check(words));
             assert_eq!(count_ones(moved), count_ones(one));
-            for by in operations {
+            for by in BITWISE {
                 let before = call.check(combine(one, other, by));
                 assert_eq!(before, combine(moved, other_moved, by));
             }

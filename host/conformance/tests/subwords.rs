@@ -6,7 +6,7 @@ use conformance::call::{check_all, Call, BUTTERFLY, INVERSE, PAIR_CALLS};
 use conformance::call::{CHECK, EXCHANGE, EXCHECK, MIX_LEFT, MIX_RIGHT};
 use conformance::controls::pass_all;
 use conformance::samples::{any_word, for_each, Random};
-use conformance::{low_ones, SIZES};
+use conformance::{low_ones, BITWISE, SIZES};
 use std::iter::zip;
 
 /// The place where a subword goes, by its number from the left; none if it is left
@@ -288,24 +288,19 @@ fn mixes_in_pairs_transpose_a_matrix() {
 /// be done before or after.
 #[test]
 fn bits_are_only_moved() {
-    let operations: [fn(u64, u64) -> u64; 3] = [
-        |one, other| one & other,
-        |one, other| one | other,
-        |one, other| one ^ other,
-    ];
     holds(|size, first, second| {
         let others = [first.rotate_left(7) ^ second, second.rotate_left(9) ^ first];
         for call in PAIR_CALLS {
             let moved = call.result(size, first, second);
             let other_moved = call.result(size, others[0], others[1]);
-            for by in operations {
+            for by in BITWISE {
                 let [one, other] = [by(first, others[0]), by(second, others[1])];
                 assert_eq!(call.result(size, one, other), by(moved, other_moved));
             }
         }
         let [one, other] = [first, second].map(|word| EXCHANGE.result(size, word, ()));
         assert_eq!(one.count_ones(), first.count_ones());
-        for by in operations {
+        for by in BITWISE {
             let exchanged = EXCHANGE.result(size, by(first, second), ());
             assert_eq!(exchanged, by(one, other));
         }

@@ -8,6 +8,7 @@ use conformance::planes::TO_PLANES;
 use conformance::samples::{any_word, Random};
 use conformance::tiles::{drawn, Movement, MOVEMENTS};
 use conformance::tiles::{MIRROR_COLUMNS, MIRROR_ROWS, TRANSPOSE, TURN_LEFT, TURN_RIGHT};
+use conformance::BITWISE;
 
 /// Where row r, column c goes.
 type Rule = fn(u32, u32) -> (u32, u32);
@@ -309,18 +310,13 @@ fn movements_by_networks() {
 /// done before or after.
 #[test]
 fn bits_are_only_moved() {
-    let operations: [fn(u64, u64) -> u64; 3] = [
-        |one, other| one & other,
-        |one, other| one | other,
-        |one, other| one ^ other,
-    ];
     let mut random = Random::default();
     for _ in 0..5_000 {
         let [one, other] = [(); 2].map(|()| any_word(&mut random, 64));
         for movement in MOVEMENTS {
             let [moved, other_moved] = [one, other].map(|tile| movement.check(tile));
             assert_eq!(moved.count_ones(), one.count_ones());
-            for by in operations {
+            for by in BITWISE {
                 assert_eq!(movement.check(by(one, other)), by(moved, other_moved));
             }
         }
