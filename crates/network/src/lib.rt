@@ -76,7 +76,7 @@ fn swaps(first: usize, index: usize, stage: u32) -> u64
 }
 
 // internal: a distance within a word. The bits at the places that `swaps` marks and those at the distance above them are exchanged, all at
-// once. (None should be marked twice, nor beyond the word.)
+// once. (No bit should take part twice, and none beyond the word.)
 pub fn exchange_marked(distance: u64, swaps: u64, word: u64) -> u64
     requires { ⌜ distance < 64 ⌝ }
     ensures { λ r. ⌜ r ≡ exchangeOf distance swaps word ⌝ }

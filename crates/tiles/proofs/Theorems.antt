@@ -1,5 +1,6 @@
 -- Req 05's theorems on tiles, each from the law of two movements. Assumes nothing.
 use mathlib.Core.Path.{_≡_, refl, sym, _∙_, ap, ap₂}
+use mathlib.Core.List.{[], _∷_}
 use Prim.Native.Nat.{ℕ, _-_, _^_, _<_}
 use native.Mathlib.Omega.{arith}
 use Rattle.bits.specs.Bit.{bit, upTo, put}
@@ -87,16 +88,28 @@ module _ {x : ℕ} (h : x < 2 ^ 64) where
   pub rows-twice : moved rowsRule (moved rowsRule x) ≡ x
   rows-twice = moved-back rowsRule rowsRule rows-inverse h
 
--- A letter, with row 0 on top and column 7 at the left, turned to the left:
+-- A letter, drawn by hand with row 0 on top and column 7 at the left, and as each movement leaves it:
 --
---   ######..   ........
---   ##......   ........
---   ##......   #.......
---   ####....   #.......
---   ##......   #..#....
---   ##......   #..#....
---   ##......   ########
---   ##......   ########
-pub letter-turned : moved leftRule 0xC0C0C0C0F0C0C0FC ≡ 0xFFFF909080800000
+--   given      transpose  left       right      columns    rows
+--   .######.   ........   ........   ........   .######.   ........
+--   .#......   .......#   #.......   .#######   ......#.   .#......
+--   .#......   .......#   #.......   ....#..#   ......#.   .#......
+--   .####...   ....#..#   #..#....   ....#..#   ...####.   .#......
+--   .#......   ....#..#   #..#....   ....#..#   ......#.   .####...
+--   .#......   ....#..#   #..#....   .......#   ......#.   .#......
+--   .#......   .#######   #######.   .......#   ......#.   .#......
+--   ........   ........   ........   ........   ........   .######.
+
+abbrev letter : ℕ
+letter = 0x004040407840407E
+
+pub letter-moved :
+    moved transposeRule letter
+    ∷ moved leftRule letter
+    ∷ moved rightRule letter
+    ∷ moved columnsRule letter
+    ∷ moved rowsRule letter
+    ∷ []
+    ≡ 0x007F090909010100 ∷ 0x00FE909090808000 ∷ 0x0001010909097F00 ∷ 0x000202021E02027E ∷ 0x7E40407840404000 ∷ []
 unfolding moved upTo put bit
-letter-turned = refl
+letter-moved = refl
