@@ -117,7 +117,6 @@ module _ (z N : ℕ) (whole : N * (2 * z) ≡ 64) where
   -- the bits of a subword, counted from the right
   bit-at : (x i t : ℕ) → i < 2 * N → t < z → bit (subword z x i) t ≡ bit x ((2 * N - 1 - i) * z + t)
   bit-at x i t hi ht =
-      let j = 2 * N - 1 - i in
       let s : i + 1 + (2 * N - 1 - i) ≡ 2 * N = omega arith in
       let e : 64 - (i + 1) * z + t ≡ (2 * N - 1 - i) * z + t = omega (arith, ap (λ (n : ℕ). n * z) s) in
       bit-subword z x i t ht ∙ ap (bit x) e
@@ -179,7 +178,6 @@ module _ (z N : ℕ) (whole : N * (2 * z) ≡ 64) where
     module _ (J t : ℕ) (h : J < N) (ht : t < z) where
       pub woven-lower : bit wovenWords (placeAt z J 0 t) ≡ bit y (placeAt z J 0 t)
       woven-lower =
-          let i = 2 * N - 1 - (J * 2 + 0) in
           let e : 2 * N - 1 - (2 * N - 1 - (J * 2 + 0)) ≡ J * 2 + 0 = omega arith in
           bit-woven (subword z x) (subword z y) (subword-lt z x) (subword-lt z y) (J * 2 + 0) t (omega arith) ht
           ∙ ap (λ (s : ℕ). bit s t) (turn-right (subword z x) (subword z y) (2 * N - 1 - (J * 2 + 0)) (omega arith))
