@@ -32,7 +32,7 @@
 
 /* The version of this header, and of the archive that it belongs to. */
 #define TB_VERSION_MAJOR 0
-#define TB_VERSION_MINOR 6
+#define TB_VERSION_MINOR 7
 #define TB_VERSION_PATCH 0
 
 #ifdef __cplusplus
@@ -58,7 +58,9 @@ enum TbRefusal {
                                     cut, or either list above 2,048 words */
     TB_REFUSAL_SHORT = 10,       /* the other list of words shorter than its bits need */
     TB_REFUSAL_SPARE = 11,       /* a spare bit of the last packed word read is one */
-    TB_REFUSAL_SUBWORD = 12      /* subword size not 1, 2, 4, 8, 16, 32 */
+    TB_REFUSAL_SUBWORD = 12,     /* subword size not 1, 2, 4, 8, 16, 32 */
+    TB_REFUSAL_PLANE = 13        /* no rows, no words in a row, or the plane's length not
+                                    their product */
 };
 
 /* The answer of tb_gather, tb_scatter and tb_group. */
@@ -390,6 +392,45 @@ TbCarried tb_mix_right(uint32_t size, uint64_t first, uint64_t second);
  * Refusals: TB_REFUSAL_SUBWORD.
  */
 TbCarried tb_exchange(uint32_t size, uint64_t word);
+
+/*
+ * Planes of pixels. A plane has `rows` rows of `row_words` words each, the top row
+ * first, and the leftmost pixel of a row is bit 63 of its first word. So row r,
+ * column c, both counted from 0 at the top left, is bit 63 - c % 64 of word
+ * r*row_words + c/64. With row_words = 2:
+ *
+ *   column    0   1   2  ..  62  63    64  65  66  .. 126 127
+ *   bit      63  62  61  ..   1   0    63  62  61  ..   1   0
+ *   row 0            word 0                    word 1
+ *   row 1            word 2                    word 3
+ *   ..
+ *
+ * A one is a lit pixel, a zero a dark one. Pixels outside the plane are dark: the end
+ * of a row does not touch the beginning of the next.
+ *
+ * A pixel and the eight around it make a number from 0 to 511, by these bits:
+ *
+ *   row above    8  7  6
+ *   own row      5  4  3    bit 4 is the pixel itself
+ *   row below    2  1  0
+ */
+
+/*
+ * Despeckle: lone pixels go out. A pixel of the new plane is lit exactly if bit 4
+ * and at least one other bit of its number in `plane` are one.
+ *
+ * `plane` points to `length` words, which are only read, and `out` to `out_length`
+ * words, each at most 2,048. The two lists must not overlap. Words 0 to
+ * rows*row_words - 1 of `out` become the new plane, in the same layout; words after
+ * them stay as they were. A refused call leaves every word as it was. Answers an
+ * enum TbRefusal. The product rows*row_words is the true one, of any two numbers,
+ * above 2^64 too.
+ * Refusals: TB_REFUSAL_RANGE (either list above 2,048 words), TB_REFUSAL_SHORT
+ * (`out` shorter than rows*row_words words), TB_REFUSAL_PLANE (rows or row_words
+ * zero, or rows*row_words not `length`).
+ */
+uint8_t tb_despeckle(const uint64_t *plane, size_t length, size_t rows, size_t row_words,
+                     uint64_t *out, size_t out_length);
 
 /*
  * The register unit, at width 64. Its registers lie in a bank that the caller

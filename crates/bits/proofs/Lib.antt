@@ -5,3 +5,4 @@ pub mod Places
 pub mod Refusals
 pub mod ByteCounts
 pub mod Computed
+pub mod FilledLists

@@ -10,7 +10,7 @@ use native.Mathlib.Nat.{div-eq-of-lt, div-lt-iff-lt-mul}
 use lib.Dec.{eqb, ltb}
 use lib.Pow.{pow-pos, pow-mono}
 use borrow.Author.Tests.{lt-ltb, le-ltb, eq-eqb, ne-eqb, eqb-true}
-use Rattle.bits.specs.Refusal.{logs, logIn, logOf, accepted, fits, lowest, Applies, Rising, IsLowest, AnswersLowest}
+use Rattle.bits.specs.Refusal.{logs, logIn, logOf, accepted, fits, lowest, leftOf, Applies, Rising, IsLowest, AnswersLowest}
 
 -- `lowest` is what demand 1 asks: the lowest number that applies
 
@@ -53,6 +53,30 @@ answers-lowest cs r number refused done d e = by-test (eqb (lowest cs) 0) (eqb-t
         record { least = subst (IsLowest cs) (f refl ∙ sym d) (lowest-law cs r); zeros = λ z. absurd (z d) }
     by-test false f =
         record { least = subst (IsLowest cs) (sym (e (lowest cs))) (lowest-law cs r); zeros = λ z. ap refused (sym (e (lowest cs))) }
+
+-- and each that leaves the words lent to it as they were when refused
+pub answers-leaving : {A : Type 0} (cs : List (ℕ × Bool)) → Rising 0 cs → (number : A → ℕ) (refused : ℕ → A) (done : A) → number done ≡ 0
+    → ((n : ℕ) → number (refused n) ≡ n) → (left out : List ℕ)
+    → AnswersLowest {A = A × List ℕ} cs (λ r. number (r .0)) (λ n. (refused n, out))
+    (cond (eqb (lowest cs) 0) done (refused (lowest cs)), leftOf (lowest cs) left out)
+unfolding leftOf
+answers-leaving {A} cs r number refused done d e left out =
+    subst (AnswersLowest cs (λ r. number (r .0)) (λ n. (refused n, out))) (cond-pair (eqb (lowest cs) 0) done (refused (lowest cs)))
+    (answers-lowest cs r (λ (r : A × List ℕ). number (r .0)) (λ n. (refused n, out)) (done, left) d e)
+  where
+    cond-pair : (t : Bool) (x y : A) → cond {A = A × List ℕ} t (x, left) (y, out) ≡ (cond t x y, cond t left out)
+    cond-pair true x y = refl
+    cond-pair false x y = refl
+
+-- what a call leaves
+
+pub left-done : {n : ℕ} → n ≡ 0 → (done out : List ℕ) → leftOf n done out ≡ done
+unfolding leftOf
+left-done {n} z done out = rw (eq-eqb n 0 z)
+
+pub left-refused : {n : ℕ} → (n ≡ 0 → ⊥) → (done out : List ℕ) → leftOf n done out ≡ out
+unfolding leftOf
+left-refused {n} z done out = rw (ne-eqb n 0 z)
 
 -- conditions after others count only if none of those holds
 pub lowest-more : (b : ℕ) (cs ds : List (ℕ × Bool)) → Rising b cs → lowest (cs ++ ds) ≡ cond (eqb (lowest cs) 0) (lowest ds) (lowest cs)

@@ -4,7 +4,7 @@ use Prim.Native.Nat.{ℕ, zero, suc, _+_, _*_, _/_, _%_, _^_}
 use mathlib.Core.List.{List, [], _∷_, _++_}
 use mathlib.Core.Bool.{cond}
 use lib.Dec.{eqb}
-use lib.ListN.{length, getD}
+use lib.ListN.{length, getD, drop}
 
 -- bit i of the word x
 unfoldable pub bit : ℕ → ℕ → ℕ
@@ -23,6 +23,10 @@ ofBits (suc w) f = ofBits w (λ i. f (suc i)) * 2 + f zero % 2
 unfoldable pub upTo : ℕ → (ℕ → ℕ) → List ℕ
 upTo zero f = []
 upTo (suc n) f = upTo n f ++ (f n ∷ [])
+
+-- the words `old` with the first j replaced by f 0, .., f (j - 1)
+abbrev pub overwritten : ℕ → (ℕ → ℕ) → List ℕ → List ℕ
+overwritten j f old = upTo j f ++ drop j old
 
 -- the number of ones of m in the places below p; rank m w is the count of a mask of width w
 unfoldable pub rank : ℕ → ℕ → ℕ

@@ -32,6 +32,10 @@ abbrev pub lowest : List (ℕ × Bool) → ℕ
 lowest [] = 0
 lowest (c ∷ cs) = cond (c .1) (c .0) (lowest cs)
 
+-- what a call with refusal n leaves in the words lent to it: what stood there if it is refused
+unfoldable pub leftOf : ℕ → List ℕ → List ℕ → List ℕ
+leftOf n done out = cond (eqb n 0) done out
+
 -- What demand 1 says of `lowest`: number n is in the list and its condition holds
 abbrev pub Applies : ℕ → List (ℕ × Bool) → Type 0
 Applies n [] = ⊥

@@ -27,11 +27,13 @@ pub const REGISTER: u8 = 8; // a register number in use above 15
 
 pub const RANGE: u8 = 9; // a is above b, b is above the length of the words that a and b cut, or either list of words is above 2,048
 
-pub const SHORT: u8 = 10; // the other list of words is shorter than its bits need
+pub const SHORT: u8 = 10; // the other list of words is shorter than its bits or its pixels need
 
 pub const SPARE: u8 = 11; // a spare bit of the last packed word read is one (paper 02, Req 02)
 
 pub const SUBWORD: u8 = 12; // the subword size is not 1, 2, 4, 8, 16 or 32 (paper 02, Req 05)
+
+pub const PLANE: u8 = 13; // a plane's rows or words a row are zero, or their product is not the length of its words (paper 02, Req 06)
 
 // The base-two logarithm of an accepted width, 0 for any other number.
 pub fn log_of(width: u32) -> u32

@@ -1,6 +1,6 @@
 -- What the calls' answers come to, by the tests that the code makes. Assumes nothing.
-use mathlib.Core.Path.{_≡_, refl, sym, _∙_, ap, ap₂, subst}
-use mathlib.Core.Bool.{Bool, true, false, not, cond, _||_}
+use mathlib.Core.Path.{_≡_, refl, sym, _∙_, ap, ap₂}
+use mathlib.Core.Bool.{Bool, false, not, cond, _||_}
 use mathlib.Core.List.{List, [], _∷_, _++_}
 use Prim.Native.Nat.{ℕ, _-_, _*_, _≤_}
 use native.Mathlib.Omega.{arith}
@@ -9,12 +9,12 @@ use lib.Dec.{eqb, ltb}
 use lib.ListN.{length, take, drop, length-take, length-drop}
 use borrow.Rule.Slice.PartMut.{post-is}
 use borrow.Author.Tests.{eq-eqb, ne-eqb, eqb-true, ltb-false, le-ltb, not-false}
-use Rattle.bits.specs.Refusal.{lowest, Rising, AnswersLowest}
-use Rattle.bits.proofs.Refusals.{answers-lowest, every-answer, lowest-more, none-applies, neither}
+use Rattle.bits.specs.Refusal.{lowest, Rising, AnswersLowest, leftOf}
+use Rattle.bits.proofs.Refusals.{answers-leaving, left-done, left-refused, every-answer, lowest-more, none-applies, neither}
 use Rattle.pack.specs.declared.Packed.{Packed}
 use Rattle.bits.specs.Bit.{upTo}
 use Rattle.pack.specs.Fields.{needed, cut, spareBits, scatteredAt, unpackInto}
-use Rattle.pack.specs.Calls.{fieldsConditions, fieldsRefusal, unpackConditions, unpackRefusal, fieldsAnswer, leftOf}
+use Rattle.pack.specs.Calls.{fieldsConditions, fieldsRefusal, unpackConditions, unpackRefusal, fieldsAnswer}
 
 -- the number of bits fits
 pub bits-le : {k d : ℕ} → k ≤ 64 → d ≤ 2048 → k * d ≤ 131072
@@ -90,18 +90,13 @@ module _ (k a b own : ℕ) (ps : List ℕ) where
 
 -- demand 1 of a rising list of conditions, of the answer and of the words lent
 
-cond-pair : {A B : Type 0} (t : Bool) (x y : A) (u v : B) → cond {A = A × B} t (x, u) (y, v) ≡ (cond t x y, cond t u v)
-cond-pair true x y u v = refl
-cond-pair false x y u v = refl
-
 pub fields-lowest : (cs : List (ℕ × Bool)) → Rising 0 cs → (k a b : ℕ) (done out : List ℕ)
     → AnswersLowest {A = Packed × List ℕ} cs (λ r. r .0 .refusal) (λ n. (record { refusal = n; count = 0; bits = 0 }, out))
     (fieldsAnswer (lowest cs) k a b, leftOf (lowest cs) done out)
-unfolding fieldsAnswer leftOf
+unfolding fieldsAnswer
 fields-lowest cs rising k a b done out =
-    let none : ℕ → Packed × List ℕ = λ n. (record { refusal = n; count = 0; bits = 0 }, out) in
-    subst (AnswersLowest cs (λ r. r .0 .refusal) none) (cond-pair (eqb (lowest cs) 0) _ _ done out)
-    (answers-lowest cs rising (λ r. r .0 .refusal) none (record { refusal = 0; count = k; bits = k * (b - a) }, done) refl (λ n. refl))
+    answers-leaving cs rising (λ (r : Packed). r .refusal) (λ n. record { refusal = n; count = 0; bits = 0 })
+    (record { refusal = 0; count = k; bits = k * (b - a) }) refl (λ n. refl) done out
 
 -- the answer of a call with refusal n
 
@@ -133,19 +128,13 @@ module _ (n k a b : ℕ) where
   pub answer-count-le : fieldsAnswer n k a b .count ≤ k
   answer-count-le = of-answer (λ (r : Packed). r .count ≤ k) (λ z. omega arith) (λ z. omega arith)
 
--- what a call that is carried out leaves
-pub left-done : {n : ℕ} → n ≡ 0 → (done out : List ℕ) → leftOf n done out ≡ done
-unfolding leftOf
-left-done {n} z done out = rw (eq-eqb n 0 z)
-
 -- what a call answers and leaves, from what the code counted
 module _ {n k : ℕ} (a b : ℕ) {size number : ℕ} {r : Packed} (s : size ≡ k) (e : number ≡ n) (h : r ≡ fieldsAnswer number size a b) (done out : List ℕ) where
   answered : r ≡ fieldsAnswer n k a b
   answered = h ∙ ap₂ (λ (m j : ℕ). fieldsAnswer m j a b) e s
 
   pub refused : (number ≡ 0 → ⊥) → (r ≡ fieldsAnswer n k a b) × (out ≡ leftOf n done out)
-  unfolding leftOf
-  refused z = (answered, rw (← e, ne-eqb number 0 z))
+  refused z = (answered, sym (left-refused (λ q. z (e ∙ q)) done out))
 
   pub carried-out : number ≡ 0 → {left : List ℕ} → left ≡ done → (r ≡ fieldsAnswer n k a b) × (left ≡ leftOf n done out)
   carried-out z l = (answered, l ∙ sym (left-done (sym e ∙ z) done out))

@@ -1,4 +1,3 @@
-pub mod FilledLists
 pub mod Stream
 pub mod Reading
 pub mod SpareWords

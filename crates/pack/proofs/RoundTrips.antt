@@ -11,20 +11,21 @@ use lib.Dec.{eqb, ltb}
 use lib.ListN.{length, getD, take, drop, length-map, length-append, length-drop, drop-of-length-le}
 use lib.Seq.{ext-getD, getD-take, take-at, drop-at, length-take-le}
 use borrow.Author.Tests.{le-ltb}
-use Rattle.bits.specs.Bit.{bit, upTo}
-use Rattle.bits.specs.Refusal.{lowest}
+use Rattle.bits.specs.Bit.{bit, upTo, overwritten}
+use Rattle.bits.specs.Refusal.{lowest, leftOf}
 use Rattle.bits.proofs.Word.{ofBits-lt, ofBits-same, ext}
 use Rattle.bits.proofs.Places.{pick-marked-lt}
 use Rattle.bits.proofs.UpTo.{length-upTo, getD-upTo, upTo-same, map-at}
 use Rattle.gather.specs.Gather.{gatherOf, scatterOf}
 use Rattle.gather.proofs.Theorems.{scatter-gather, gather-scatter}
-use Rattle.pack.specs.Fields.{overwritten, sizeOf, needed, cut, fieldsOf, streamOf, wordAt, packInto, packedBit, spareBits, fieldAt, scatteredAt, unpackInto}
-use Rattle.pack.specs.Calls.{fieldsRefusal, unpackRefusal, fieldsAnswer, leftOf, packAnswer, packedOut, unpackAnswer, unpackedOut}
-use Rattle.pack.proofs.FilledLists.{length-overwritten}
+use Rattle.pack.specs.Fields.{sizeOf, needed, cut, fieldsOf, streamOf, wordAt, packInto, packedBit, spareBits, fieldAt, scatteredAt, unpackInto}
+use Rattle.pack.specs.Calls.{fieldsRefusal, unpackRefusal, fieldsAnswer, packAnswer, packedOut, unpackAnswer, unpackedOut}
+use Rattle.bits.proofs.FilledLists.{length-overwritten}
+use Rattle.bits.proofs.Refusals.{left-done}
 use Rattle.pack.proofs.Reading.{bit-packed, word-bits}
 use Rattle.pack.proofs.SpareWords.{spare-bit}
 use Rattle.pack.proofs.Turns.{stream-word, stream-end, next-field}
-use Rattle.pack.proofs.FieldAnswers.{InLimits, within, by-none, unpack-within, by-none-spare, answer-done, answer-refusal, left-done, length-cut, cut-room}
+use Rattle.pack.proofs.FieldAnswers.{InLimits, within, by-none, unpack-within, by-none-spare, answer-done, answer-refusal, length-cut, cut-room}
 use Rattle.pack.proofs.Theorems.{field-place, packed-bit, pack-spare}
 
 module _ (m : ℕ) (ws out : List ℕ) where

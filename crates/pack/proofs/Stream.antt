@@ -12,7 +12,7 @@ use Rattle.bits.proofs.Word.{ofBits-lt, ofBits-same, ofBits-add, ofBits-low}
 use Rattle.pack.specs.declared.Cursor.{Cursor}
 use Rattle.pack.specs.Fields.{wordAt}
 use Rattle.pack.specs.Cursor.{Holds}
-use Rattle.pack.proofs.FilledLists.{fill-next}
+use Rattle.bits.proofs.FilledLists.{fill-next}
 
 -- words end to end
 

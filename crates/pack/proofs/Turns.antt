@@ -8,7 +8,7 @@ use native.Mathlib.Nat.{mul-le-mul-left}
 use lib.Arith.{digits-lt, digits-div, digits-mod}
 use lib.ListN.{length, getD, length-map}
 use borrow.Author.Tests.{lt-ltb, le-ltb, eq-eqb, ne-eqb}
-use Rattle.bits.specs.Bit.{bit, ofBits}
+use Rattle.bits.specs.Bit.{bit, ofBits, overwritten}
 use Rattle.bits.proofs.Word.{bit-mod-two, bit-ofBits, ofBits-lt, ofBits-same, ofBits-add, ext}
 use Rattle.bits.proofs.Places.{pick-marked-lt}
 use Rattle.bits.proofs.UpTo.{map-at}
@@ -16,9 +16,9 @@ use Rattle.gather.specs.Gather.{gatherOf, scatterOf}
 use Rattle.pack.specs.declared.Cursor.{Cursor}
 use Rattle.pack.specs.declared.Pair.{Pair}
 use Rattle.pack.specs.declared.Taken.{Taken}
-use Rattle.pack.specs.Fields.{sizeOf, needed, fieldsOf, streamBit, streamOf, wordAt, packInto, scatteredAt, overwritten}
+use Rattle.pack.specs.Fields.{sizeOf, needed, fieldsOf, streamBit, streamOf, wordAt, packInto, scatteredAt}
 use Rattle.pack.specs.Cursor.{cursorStart, Holds, Puts, PutsPair, Gathers, finished, Awaits, Takes}
-use Rattle.pack.proofs.FilledLists.{length-overwritten, fill-none, fill-next}
+use Rattle.bits.proofs.FilledLists.{length-overwritten, fill-none, fill-next}
 use Rattle.pack.proofs.Stream.{ofBits-none}
 use Rattle.pack.proofs.Reading.{scatter-read}
 

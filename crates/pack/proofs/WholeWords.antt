@@ -14,7 +14,7 @@ use Rattle.gather.proofs.AnyWidth.{gather-lt, scatter-lt}
 use Rattle.gather.proofs.Theorems.{bit-gather, bit-scatter}
 use Rattle.pack.specs.Fields.{sizeOf, needed, streamOf, wordAt, packInto, scatteredAt}
 use Rattle.pack.specs.Cursor.{Reads, Copies}
-use Rattle.pack.proofs.FilledLists.{fill-none, fill-next, fill-all}
+use Rattle.bits.proofs.FilledLists.{fill-none, fill-next, fill-all}
 use Rattle.pack.proofs.Reading.{bit-packed, word-bits, scatter-read}
 use Rattle.pack.proofs.Turns.{field-bits}
 

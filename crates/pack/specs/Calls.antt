@@ -4,7 +4,7 @@ use mathlib.Core.Bool.{Bool, not, cond, _||_}
 use mathlib.Core.List.{List, [], _∷_, _++_}
 use lib.Dec.{eqb, ltb}
 use lib.ListN.{length}
-use Rattle.bits.specs.Refusal.{lowest}
+use Rattle.bits.specs.Refusal.{lowest, leftOf}
 use Rattle.pack.specs.declared.Packed.{Packed}
 use Rattle.pack.specs.Fields.{sizeOf, needed, cut, packInto, spareBits, unpackInto}
 
@@ -30,10 +30,6 @@ unpackRefusal k a b own ps = lowest (unpackConditions k a b own ps)
 unfoldable pub fieldsAnswer : ℕ → ℕ → ℕ → ℕ → Packed
 fieldsAnswer n k a b =
     cond (eqb n 0) (record { refusal = 0; count = k; bits = k * (b - a) }) (record { refusal = n; count = 0; bits = 0 })
-
--- what a call with refusal n leaves: what stood there if it is refused
-unfoldable pub leftOf : ℕ → List ℕ → List ℕ → List ℕ
-leftOf n done out = cond (eqb n 0) done out
 
 -- pack: a and b cut the words read
 abbrev pub packAnswer : ℕ → List ℕ → ℕ → ℕ → List ℕ → Packed

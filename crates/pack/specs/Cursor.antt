@@ -5,12 +5,12 @@ use mathlib.Core.List.{List}
 use Prim.Native.Nat.{ℕ, _+_, _*_, _%_, _^_, _<_}
 use lib.Dec.{eqb}
 use lib.ListN.{length, getD, set}
-use Rattle.bits.specs.Bit.{bit, ofBits}
+use Rattle.bits.specs.Bit.{bit, ofBits, overwritten}
 use Rattle.gather.specs.Gather.{gatherOf}
 use Rattle.pack.specs.declared.Cursor.{Cursor}
 use Rattle.pack.specs.declared.Pair.{Pair}
 use Rattle.pack.specs.declared.Taken.{Taken}
-use Rattle.pack.specs.Fields.{overwritten, sizeOf, streamOf, wordAt, packedBit}
+use Rattle.pack.specs.Fields.{sizeOf, streamOf, wordAt, packedBit}
 
 -- nothing written or read
 abbrev pub cursorStart : Cursor

@@ -4,12 +4,8 @@ use mathlib.Core.Bool.{cond}
 use mathlib.Core.List.{List, _++_, map}
 use lib.Dec.{ltb}
 use lib.ListN.{length, getD, take, drop}
-use Rattle.bits.specs.Bit.{bit, ofBits, rank, upTo}
+use Rattle.bits.specs.Bit.{bit, ofBits, rank, upTo, overwritten}
 use Rattle.gather.specs.Gather.{gatherOf, scatterOf}
-
--- the words `old` with the first j replaced by f 0, .., f (j - 1)
-abbrev pub overwritten : ℕ → (ℕ → ℕ) → List ℕ → List ℕ
-overwritten j f old = upTo j f ++ drop j old
 
 -- k, how many bits a field of the mask has
 abbrev pub sizeOf : ℕ → ℕ

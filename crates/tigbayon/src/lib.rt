@@ -1,5 +1,5 @@
 // The exported C functions, declared in include/tigbayon.h: all calls of paper 01 ('Lines, masks, orders' to 'The register unit'), those of
-// prepared networks, and of paper 02 the bit planes, tiles and subwords. Each hands its arguments to one call.
+// prepared networks, and of paper 02 the bit planes, tiles, subwords and planes of pixels. Each hands its arguments to one call.
 // No logic is here, and each promise is that call's. The host lends its register bank: it is copied out, and what the call
 // leaves is stored back.
 ghost use mathlib.Core.Path.{_≡_};
@@ -15,6 +15,7 @@ ghost use Rattle.pack.specs.Calls.{packAnswer, packedOut, unpackAnswer, unpacke
 ghost use Rattle.planes.specs.Planes.{planesOf, wordsOfPlanes};
 ghost use Rattle.tiles.specs.Tile.{moved, transposeRule, leftRule, rightRule, columnsRule, rowsRule};
 ghost use Rattle.subwords.specs.Subword.{checkOf, exchangePairsOf, excheckOf, mixLeftOf, mixRightOf, subwordAnswer};
+ghost use Rattle.despeckle.specs.Calls.{despeckleAnswer, despeckledOut};
 ghost use Rattle.permute.specs.Calls.{routeAnswer, AnswersFirst, oneAnswer, AnswersAlone};
 ghost use Rattle.gather.specs.Gather.{gatherOf, scatterOf, groupOf, answerOf};
 
@@ -229,6 +230,14 @@ pub extern "C" fn tb_exchange(size: u32, word: u64) -> network::Carried
 }
 
 // One operation on a lent bank.
+#[no_mangle]
+pub extern "C" fn tb_despeckle(plane: &[u64], rows: usize, words: usize, out: &mut [u64]) -> u8
+    ensures { λ r. ⌜ (r ≡ despeckleAnswer (now (plane .entry)) rows words (now (out .entry)))
+        × (now (out .exit) ≡ despeckledOut (now (plane .entry)) rows words (now (out .entry))) ⌝ }
+{
+    despeckle::despeckle(plane, rows, words, out)
+}
+
 #[no_mangle]
 pub extern "C" fn tb_operate(
     bank: &mut unit::Bank,

@@ -4,12 +4,14 @@
 use crate::masks::{Mask, OfMask};
 use crate::networks::{controls_and_word, random_controls, Network, Passage, Prepare};
 use crate::packing::{Packing, ALL_MARKED, COLOUR, PACK, UNPACK};
+use crate::pixels::Lists;
 use crate::routing::permutation_by;
 use crate::subwords::OfPair;
 use crate::table::{print_heading, print_line};
 use crate::tiles::OfTile;
 use crate::timing::{inputs, Calls};
 use conformance::low_ones;
+use conformance::pixels::Shape;
 use conformance::planes::Words;
 use conformance::programs::{bank, program, Form, FORMS};
 use conformance::samples::{random_eight, random_permutation, Random};
@@ -108,6 +110,13 @@ pub const GROWTHS: [Growth; 6] = [
             ("unpack_all_marked", |words| {
                 packed(words, UNPACK, ALL_MARKED)
             }),
+            ("despeckle", |words| {
+                // As many rows as words in a row, or twice as many.
+                let row_words = 1 << (words.ilog2() / 2);
+                despeckled((words / row_words, row_words))
+            }),
+            ("despeckle_row", |words| despeckled((1, words))),
+            ("despeckle_column", |words| despeckled((words, 1))),
         ],
     },
     Growth {
@@ -261,6 +270,11 @@ fn by_network(network: Network) -> impl Fn(&mut Random, u32) -> Vec<u8> {
 fn packed(words: usize, packing: Packing, mask: Mask) -> Calls {
     let make = |random: &mut Random| packing.lists(random, mask, words);
     calls(words, make, move |lists| packing.on(lists))
+}
+
+fn despeckled((rows, row_words): Shape) -> Calls {
+    let make = |random: &mut Random| Lists::of(random, (rows, row_words));
+    calls(rows * row_words, make, Lists::despeckle)
 }
 
 fn converted(call: extern "C" fn(&Words) -> TbPlanes) -> Calls {

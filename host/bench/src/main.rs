@@ -20,6 +20,7 @@ mod growth;
 mod masks;
 mod networks;
 mod packing;
+mod pixels;
 mod planes;
 mod routing;
 mod subwords;
@@ -38,7 +39,7 @@ const WIDTH: u32 = 64;
 /// A contest runs the call of its name.
 type Bench = (&'static str, fn(&str));
 
-const CONTESTS: [Bench; 27] = [
+const CONTESTS: [Bench; 28] = [
     ("butterfly", networks::butterfly),
     ("inverse", networks::inverse),
     ("prepare_butterfly", networks::prepare_butterfly),
@@ -66,6 +67,7 @@ const CONTESTS: [Bench; 27] = [
     ("mix_left", subwords::mix_left),
     ("mix_right", subwords::mix_right),
     ("exchange", subwords::exchange),
+    ("despeckle", pixels::despeckle),
 ];
 
 const BY_MASK: &str = "by mask";

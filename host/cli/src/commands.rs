@@ -4,6 +4,7 @@ mod drawn;
 mod masks;
 mod networks;
 mod packing;
+mod pixels;
 mod planes;
 mod routing;
 mod subwords;
@@ -14,7 +15,7 @@ use crate::command::Command;
 use crate::failure::Failure;
 
 /// All of them, in the order of the help.
-pub const COMMANDS: [&Command; 18] = [
+pub const COMMANDS: [&Command; 19] = [
     &masks::GATHER,
     &masks::SCATTER,
     &masks::GROUP,
@@ -32,6 +33,7 @@ pub const COMMANDS: [&Command; 18] = [
     &subwords::MIX_LEFT,
     &subwords::MIX_RIGHT,
     &subwords::EXCHANGE,
+    &pixels::DESPECKLE,
     &unit::RUN,
 ];
 

@@ -1,10 +1,11 @@
-//! Drawings of networks on their controls.
+//! Drawings of networks on their controls, and of planes of pixels.
 
 mod canvas;
 mod curves;
 mod layout;
 mod legend;
 mod palette;
+pub mod pixels;
 pub mod svg;
 pub mod text;
 mod words;

@@ -47,6 +47,7 @@ pub const CONDITIONS: [&str; Refusal::ALL.len()] = [
     "the other list of words shorter than its bits need",
     "a spare bit of the last packed word read is one",
     "subword size not 1, 2, 4, 8, 16, 32",
+    "no rows, no words in a row, or the plane's length not their product",
 ];
 
 /// The condition of a refusal.

@@ -6,7 +6,7 @@ use crate::failure::{condition, CONDITIONS, STATUSES};
 
 const ABOUT: &str = "\
 Tigbayon: gathers, scatters, groups, permutes and packs bits, takes bytes to bit planes,
-turns tiles and mixes subwords, by a library that is proved.
+turns tiles, mixes subwords and despeckles planes of pixels, by a library that is proved.
 
 Usage: tigbayon COMMAND ARGUMENTS [OPTIONS]
        tigbayon COMMAND --help, or tigbayon help COMMAND

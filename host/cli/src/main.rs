@@ -1,4 +1,4 @@
-//! The library's calls from the command line, and drawings of its networks.
+//! The library's calls from the command line, and drawings of networks and planes.
 //!
 //! `tigbayon --help` lists the commands.
 
@@ -12,6 +12,7 @@ mod help;
 mod network;
 mod number;
 mod picture;
+mod plane;
 
 use answer::Answer;
 use args::Given;

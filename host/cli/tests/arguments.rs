@@ -152,6 +152,35 @@ fn sizes_and_words() {
 }
 
 #[test]
+fn planes_of_pixels() {
+    assert_unread(&["despeckle"], "WORDS.. is missing");
+    assert_unread(&["despeckle", "--rows", "1"], "WORDS.. is missing");
+    let despeckle = |options: &[&'static str]| [&["despeckle", "1,2"], options].concat();
+    let decimal = "expected a decimal number from 0 to 18446744073709551615";
+    for option in ["--rows", "--words"] {
+        for text in ["", "0x1", "one", "-1", "18446744073709551616"] {
+            let problem = format!("{option} is {text:?}, {decimal}");
+            assert_unread(&despeckle(&[option, text]), &problem);
+        }
+        let twice = format!("{option} is given twice");
+        assert_unread(&despeckle(&[option, "1", option, "1"]), &twice);
+    }
+    assert_unread(&despeckle(&["--rows"]), "--rows needs H");
+    assert_unread(&despeckle(&["--words", "--text"]), "--words needs V");
+    assert_unread(&["despeckle", "1", "2", "x"], "entry 2 of WORDS.. is \"x\"");
+    assert_unread(&despeckle(&["--out", "1,x"]), "entry 1 of --out is \"x\"");
+    let exclude = "--out and --length exclude each other";
+    assert_unread(&despeckle(&["--out", "1,2", "--length", "2"]), exclude);
+    let both = "--svg - and --text both write to the output";
+    assert_unread(&despeckle(&["--svg", "-", "--text"]), both);
+    assert_unread(&despeckle(&["--svg"]), "--svg needs FILE");
+    assert_unread(
+        &despeckle(&["--bit", "1"]),
+        "--bit is no option of despeckle",
+    );
+}
+
+#[test]
 fn registers() {
     let form = "--set is \"2\", expected R=WORD";
     assert_unread(&["run", "", "--set", "2"], form);

@@ -51,8 +51,10 @@ fn every_example_prints_what_is_shown() {
             count += 1;
         }
     }
-    assert!(count > 35, "{count} examples");
-    assert!(folder.join("route.svg").exists());
+    assert!(count > 40, "{count} examples");
+    for drawn in ["route.svg", "pixels.svg"] {
+        assert!(folder.join(drawn).exists());
+    }
 }
 
 #[test]
@@ -81,7 +83,7 @@ fn the_version() {
 fn all_commands_are_listed() {
     let expected = "\
         gather scatter group decode butterfly inverse route pack unpack planes bytes tile \
-        check excheck mix-left mix-right exchange run";
+        check excheck mix-left mix-right exchange despeckle run";
     assert_eq!(names().join(" "), expected);
     let listed = expected.replace(' ', ", ");
     assert!(run(&["turn"]).error.contains(&listed));

@@ -3,22 +3,7 @@
 mod support;
 
 use conformance::samples::{any_eight, Random};
-use support::prints;
-
-/// Words as a list.
-fn list(words: &[u64]) -> String {
-    let words = words.iter().map(|word| format!("{word:x}"));
-    Vec::from_iter(words).join(",")
-}
-
-/// The words of a list that was printed.
-fn read(printed: &str) -> Vec<u64> {
-    let words = printed.trim_end().split(',');
-    let words = words.map(|word| word.strip_prefix("0x").unwrap());
-    words
-        .map(|word| u64::from_str_radix(word, 16).unwrap())
-        .collect()
-}
+use support::{hex_list, prints, read_words};
 
 /// The planes of a drawing, each with its number.
 fn read_drawn(drawn: &str) -> Vec<(usize, u64)> {
@@ -73,9 +58,9 @@ fn what_is_printed_can_be_given_again() {
     for _ in 0..50 {
         let words = any_eight(&mut random);
         for [there, back] in [["planes", "bytes"], ["bytes", "planes"]] {
-            let converted = prints(&[there, &list(&words)]);
+            let converted = prints(&[there, &hex_list(&words)]);
             let again = prints(&[back, converted.trim_end()]);
-            assert_eq!(read(&again), words);
+            assert_eq!(read_words(&again), words);
         }
     }
 }
@@ -92,8 +77,8 @@ fn words_in_one_argument_or_many() {
 fn drawings_show_the_planes() {
     let mut random = Random::default();
     for _ in 0..50 {
-        let words = list(&any_eight(&mut random));
-        let planes = read(&prints(&["planes", &words]));
+        let words = hex_list(&any_eight(&mut random));
+        let planes = read_words(&prints(&["planes", &words]));
         let numbered: Vec<(usize, u64)> = planes.into_iter().enumerate().collect();
         assert_eq!(read_drawn(&prints(&["planes", &words, "--text"])), numbered);
         let (p, plane) = numbered[random.below(8) as usize];

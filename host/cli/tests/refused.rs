@@ -179,6 +179,38 @@ fn by_a_subword_size() {
     assert_eq!(run(&["mix-left", "64", "1", "2"]).error, said);
 }
 
+/// 9 and 10 come first.
+#[test]
+fn by_a_plane() {
+    let despeckle = |rows, words, options: &[&'static str]| {
+        let shape = ["despeckle", "1,2,3,4,5,6", "--rows", rows, "--words", words];
+        [&shape[..], options].concat()
+    };
+    let huge = "18446744073709551615";
+    for [rows, words] in [["2", "2"], ["7", "1"], ["0", "6"], ["6", "0"], ["0", huge]] {
+        assert_refused(&despeckle(rows, words, &[]), Refusal::Plane);
+        let lent = despeckle(rows, words, &["--length", "9"]);
+        assert_refused(&lent, Refusal::Plane);
+        let long = despeckle(rows, words, &["--length", "2049"]);
+        assert_refused(&long, Refusal::Range);
+    }
+    for [rows, words] in [[huge, "1"], [huge, huge], ["4294967296", "4294967296"]] {
+        assert_refused(&despeckle(rows, words, &[]), Refusal::Short);
+    }
+    assert_refused(&despeckle("2", "3", &["--out", "7,7"]), Refusal::Short);
+    assert_refused(&despeckle("2", "3", &["--out", ""]), Refusal::Short);
+    assert_refused(&["despeckle", ""], Refusal::Plane);
+    for [option, count] in [["--rows", "4"], ["--words", "5"], ["--rows", "0"]] {
+        let args = ["despeckle", "1,2,3,4,5,6", option, count];
+        assert_refused(&args, Refusal::Plane);
+    }
+    let long = vec!["1"; 2049].join(",");
+    assert_refused(&["despeckle", &long], Refusal::Range);
+    let said = "refused 13: no rows, no words in a row, or the plane's length not their product\n";
+    assert_eq!(run(&["despeckle", ""]).error, said);
+    assert_eq!(run(&despeckle("2", "3", &["--length", "2048"])).status, 0);
+}
+
 /// A drawing of a refused call is not written.
 #[test]
 fn leave_no_file() {
@@ -189,5 +221,6 @@ fn leave_no_file() {
         &["route", "8", "1", "--svg", name, "--bit", "9"],
         Refusal::Length,
     );
+    assert_refused(&["despeckle", "", "--svg", name], Refusal::Plane);
     assert!(!file.exists());
 }

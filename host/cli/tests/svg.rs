@@ -5,22 +5,10 @@ mod support;
 use std::collections::{HashMap, HashSet};
 use std::sync::LazyLock;
 use support::drawn::{calls, switches, Call};
+use support::elements::{assert_on_sheet, elements, Element, Point};
 use support::{list, prints};
 
-/// An element: its name, and what its attributes are.
-struct Element {
-    name: String,
-    attributes: HashMap<String, String>,
-}
-
-/// A point of a drawing.
-type Point = (i32, i32);
-
 impl Element {
-    fn is(&self, class: &str) -> bool {
-        self.attributes.get("class").is_some_and(|is| is == class)
-    }
-
     /// The lines of a path, each by its points from left to right; those that
     /// only shape a curve are left out.
     fn lines(&self) -> Vec<Vec<Point>> {
@@ -43,45 +31,6 @@ impl Element {
         }
         lines
     }
-}
-
-/// The elements of a drawing, which must be well-formed.
-fn elements(svg: &str) -> Vec<Element> {
-    let (mut elements, mut open) = (Vec::new(), Vec::new());
-    for part in svg.split('<').skip(1) {
-        let (tag, after) = part.split_once('>').expect("a tag ends");
-        assert!(!after.contains(['>', '&']), "{after}");
-        if let Some(name) = tag.strip_prefix('/') {
-            assert_eq!(open.pop().as_deref(), Some(name));
-            continue;
-        }
-        let (tag, ended) = match tag.strip_suffix('/') {
-            Some(tag) => (tag, true),
-            None => (tag, false),
-        };
-        let (name, rest) = tag.split_once(' ').unwrap_or((tag, ""));
-        let name = name.to_string();
-        if !ended {
-            open.push(name.clone());
-        }
-        let attributes = attributes(rest);
-        elements.push(Element { name, attributes });
-    }
-    assert!(open.is_empty(), "{open:?}");
-    elements
-}
-
-/// The attributes of an element, none of which is given twice.
-fn attributes(mut text: &str) -> HashMap<String, String> {
-    let mut attributes = HashMap::new();
-    while !text.is_empty() {
-        let (name, rest) = text.split_once("=\"").expect("an attribute");
-        let (value, rest) = rest.split_once('"').expect("a value ends");
-        let twice = attributes.insert(name.to_string(), value.to_string());
-        assert!(twice.is_none(), "{name}");
-        text = rest.strip_prefix(' ').unwrap_or(rest);
-    }
-    attributes
 }
 
 /// The place of each height, from the wires, which are drawn from the top down.
@@ -218,22 +167,7 @@ fn marked_places_are_full() {
 #[test]
 fn all_lies_on_the_sheet() {
     for (_, read) in DRAWINGS.iter() {
-        let sheet = &read.elements[0];
-        assert_eq!(sheet.name, "svg");
-        let side = |name: &str| sheet.attributes[name].parse::<i32>().unwrap();
-        let (width, height) = (side("width"), side("height"));
-        assert_eq!(sheet.attributes["viewBox"], format!("0 0 {width} {height}"));
         let drawn = read.switches().into_values().flat_map(Element::lines);
-        let points = drawn.flatten().chain(read.path());
-        let elements = read.elements.iter();
-        let texts = elements
-            .filter(|element| element.name == "text")
-            .map(|text| {
-                let number = |name: &str| text.attributes[name].parse::<i32>().unwrap();
-                (number("x"), number("y"))
-            });
-        for (x, y) in points.chain(texts) {
-            assert!((20..width - 20).contains(&x) && (20..height - 20).contains(&y));
-        }
+        assert_on_sheet(&read.elements, drawn.flatten().chain(read.path()));
     }
 }

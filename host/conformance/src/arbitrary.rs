@@ -3,6 +3,7 @@
 
 use crate::controls::Controls;
 use crate::packing::{spare, words_needed, LONGEST};
+use crate::pixels::{wrapping_to, Plane, Shape, LONGEST_SHAPES};
 use crate::programs::{cycles, damage, program};
 use crate::samples::{any_controls, any_permutation, any_word, Random};
 use crate::unit::Operation;
@@ -141,6 +142,49 @@ pub fn end(random: &mut Random, mask: u64, packed: &mut [u64], (a, b): (usize, u
     };
     if let Some(word) = packed.get_mut(last) {
         *word |= dirt;
+    }
+}
+
+/// The words of a plane, the shape that is handed over with it, and the length of the
+/// list to write into. Some planes are empty, some longer or shorter than their shape,
+/// some lists short of the plane.
+pub fn plane(random: &mut Random) -> (Vec<u64>, Shape, usize) {
+    let [rows, row_words] = [6, 4].map(|most| 1 + random.below(most) as usize);
+    let many = 1 + random.below(600) as usize;
+    let shape = match random.below(128) {
+        0 => random.pick(&LONGEST_SHAPES),
+        1 => random.pick(&[(1, LONGEST + 1), (LONGEST + 1, 1), (3, 683)]),
+        2 => random.pick(&[(many, 1), (many, 3), (1, many), (3, many)]),
+        3..=6 => random.pick(&[(0, 0), (rows, 0), (0, row_words)]),
+        _ => (rows, row_words),
+    };
+    let mut plane = Plane::any(random, shape).words;
+    let words = plane.len();
+    if random.below(16) == 0 {
+        plane.resize(length(random), random.word());
+    }
+    let handed = handed(random, shape);
+    let out_length = match random.below(8) {
+        0 => words.saturating_sub(1),
+        1 | 2 => words + random.below(4) as usize,
+        3 => length(random),
+        _ => words,
+    };
+    (plane, handed, out_length)
+}
+
+/// A shape to hand over in the place of this one, mostly the same. The product of some
+/// wraps around to the same words.
+fn handed(random: &mut Random, (rows, row_words): Shape) -> Shape {
+    let (any, other) = (random.word() as usize, number(random, rows * row_words));
+    match random.below(16) {
+        0 => (other, row_words),
+        1 => (rows, other),
+        2 => (other, number(random, rows)),
+        3 => random.pick(&[(0, row_words), (rows, 0), (0, 0), (0, other), (other, 0)]),
+        4 => (any | 1, wrapping_to(rows * row_words, any | 1)),
+        5 => (row_words, rows),
+        _ => (rows, row_words),
     }
 }
 

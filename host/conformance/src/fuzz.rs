@@ -2,16 +2,17 @@
 //! whole answer and in everything that is lent.
 
 use crate::arbitrary::{budget, controls, cut, end, length, list, operation, other_length};
-use crate::arbitrary::{permutation, register, size, widths, word};
+use crate::arbitrary::{permutation, plane, register, size, widths, word};
 use crate::call::{Call, BUTTERFLY, DECODE, GATHER, GROUP, INVERSE, SCATTER};
 use crate::call::{CHECK, EXCHANGE, EXCHECK, MIX_LEFT, MIX_RIGHT};
 use crate::call::{PREPARE_BUTTERFLY, PREPARE_INVERSE, ROUTE, ROUTE_BUTTERFLY, ROUTE_INVERSE};
 use crate::controls::Controls;
 use crate::packing::{PackingCall, PACK, UNPACK};
+use crate::pixels::despeckle;
 use crate::planes::{turned_over, Conversion, FROM_PLANES, TO_PLANES};
 use crate::prepared::{Passage, THROUGH_BUTTERFLY, THROUGH_INVERSE};
 use crate::programs::bank;
-use crate::samples::{any_controls, any_eight, any_swaps, any_word, Random};
+use crate::samples::{any_controls, any_eight, any_swaps, any_word, random_words, Random};
 use crate::tiles::{Movement, MIRROR_COLUMNS, MIRROR_ROWS, TRANSPOSE, TURN_LEFT, TURN_RIGHT};
 use crate::unit::{operate, read, run, write};
 use crate::WIDTHS;
@@ -23,7 +24,7 @@ use std::iter::zip;
 use std::panic::{catch_unwind, resume_unwind};
 
 /// How many refusal numbers there are, 0 among them.
-const NUMBERS: usize = 13;
+const NUMBERS: usize = 14;
 
 /// An exported call.
 struct Target {
@@ -34,7 +35,7 @@ struct Target {
     check: fn(&mut Random) -> u8,
 }
 
-const TARGETS: [Target; 31] = [
+const TARGETS: [Target; 32] = [
     target("gather", &[0, 1, 2], |random| masked(random, GATHER)),
     target("scatter", &[0, 1, 2], |random| masked(random, SCATTER)),
     target("group", &[0, 1, 2], |random| masked(random, GROUP)),
@@ -97,6 +98,11 @@ const TARGETS: [Target; 31] = [
     target("exchange", &[0, 12], |random| {
         let size = size(random);
         EXCHANGE.check(size, any_word(random, 64), ()).refusal
+    }),
+    target("despeckle", &[0, 9, 10, 13], |random| {
+        let (plane, shape, out_length) = plane(random);
+        let mut out = random_words(random, out_length);
+        despeckle(&plane, shape, &mut out).refusal
     }),
     target("operate", &[0, 7, 8], |random| {
         operate(&mut bank(random), operation(random)).refusal

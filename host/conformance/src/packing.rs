@@ -1,7 +1,6 @@
 //! Pack and unpack beside their model.
 
-use crate::call::assert_agree;
-use crate::guards::{lent, only_read};
+use crate::lists::ListCall;
 use crate::low_ones;
 use crate::samples::{random_words, Random};
 use model::packing::Packed;
@@ -63,22 +62,12 @@ impl PackingCall {
         b: usize,
         out: &mut [u64],
     ) -> Answer<Packed> {
-        let input = || format!("{} {mask:x} {first:x?} {a} {b} {out:x?}", self.name);
-        let (library, written) = lent(out, |out| {
-            only_read(first, |first| (self.raw)(mask, first, a, b, out))
-        });
-        let (wrapped, wrapped_written) = lent(out, |out| (self.wrapped)(mask, first, a, b, out));
-        let (model, expected) = lent(out, |out| (self.model)(mask, first, a, b, out));
-        assert_agree(input, library, model, wrapped);
-        for (by, written) in [("library", written), ("wrapper", wrapped_written)] {
-            assert!(
-                written == expected,
-                "{}: {by} {written:x?}, model {expected:x?}",
-                input()
-            );
-        }
-        out.copy_from_slice(&expected);
-        model
+        let call = ListCall {
+            raw: |first: &[u64], out: &mut [u64]| (self.raw)(mask, first, a, b, out),
+            wrapped: |first: &[u64], out: &mut [u64]| (self.wrapped)(mask, first, a, b, out),
+            model: |first: &[u64], out: &mut [u64]| (self.model)(mask, first, a, b, out),
+        };
+        call.check(|| format!("{} {mask:x} {a} {b}", self.name), first, out)
     }
 
     /// Checks that the call is refused by this number and leaves every word as

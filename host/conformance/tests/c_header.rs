@@ -68,6 +68,25 @@ const SUBWORDS: &str = "\
     mix_right 12 0\n\
     exchange 12 0\n";
 
+/// What it prints of planes of pixels.
+const PIXELS: &str = "\
+    despeckle 0: 1 8000000000000000 1 0 7\n\
+    despeckle 0: 0 8000000000000000 4000000000000000 0 7\n\
+    despeckle 0: 1 8000000000000000 0 0 7\n\
+    despeckle 9: 1 8000000000000000 0 0 7\n\
+    despeckle 9: 1 8000000000000000 0 0 7\n\
+    despeckle 10: 1 8000000000000000 0 0 7\n\
+    despeckle 10: 1 8000000000000000 0 0 7\n\
+    despeckle 10: 1 8000000000000000 0 0 7\n\
+    despeckle 13: 1 8000000000000000 0 0 7\n\
+    despeckle 13: 1 8000000000000000 0 0 7\n\
+    despeckle 10: 1 8000000000000000 0 0 7\n\
+    despeckle 13: 1 8000000000000000 0 0 7\n\
+    despeckle 13: 1 8000000000000000 0 0 7\n\
+    despeckle 10: 1 8000000000000000 0 0 7\n\
+    despeckle 10: 1 8000000000000000 0 0 7\n\
+    plane: 1 8000000000000000 4000000000000005 0\n";
+
 /// What it prints of the register unit.
 const UNIT: &str = "\
     ends 0 1 2\n\
@@ -183,7 +202,7 @@ fn expected() -> String {
         route_inverse 4 0 0 0 0 0 0\n\
         permutation 0 4 2 3 1 5 6 7\n";
     let numbers = format!("numbers 0{}\n", numbers.concat());
-    let calls = [PREPARED, PACKING, PLANES, TILES, SUBWORDS, UNIT];
+    let calls = [PREPARED, PACKING, PLANES, TILES, SUBWORDS, PIXELS, UNIT];
     layouts() + &numbers + answers + &calls.concat()
 }
 

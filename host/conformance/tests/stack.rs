@@ -1,10 +1,11 @@
 //! The stack that each exported call uses, at its deepest over many inputs.
 //! With `--nocapture` the bytes are printed.
 
-use conformance::arbitrary::{controls, cut, list, operation, permutation};
+use conformance::arbitrary::{controls, cut, list, operation, permutation, plane};
 use conformance::arbitrary::{register, size, widths, word};
 use conformance::packing::{clean_end, LONGEST};
 use conformance::permutations::{one_loop, FIXED};
+use conformance::pixels::{Plane, LONGEST_SHAPES};
 use conformance::planes::Words;
 use conformance::programs::{bank, program};
 use conformance::samples::{any_eight, any_swaps, random_permutation, random_words, Random};
@@ -15,8 +16,8 @@ use model::routing::valid_stage;
 use std::hint::black_box;
 use std::thread;
 use tigbayon::{
-    tb_butterfly, tb_butterfly_prepared, tb_check, tb_decode, tb_exchange, tb_excheck,
-    tb_from_planes, tb_gather, tb_group, tb_inverse, tb_inverse_prepared, tb_mix_left,
+    tb_butterfly, tb_butterfly_prepared, tb_check, tb_decode, tb_despeckle, tb_exchange,
+    tb_excheck, tb_from_planes, tb_gather, tb_group, tb_inverse, tb_inverse_prepared, tb_mix_left,
     tb_mix_right, tb_operate, tb_pack, tb_prepare_butterfly, tb_prepare_inverse, tb_read, tb_route,
     tb_route_butterfly, tb_route_inverse, tb_run, tb_scatter, tb_tile_mirror_columns,
     tb_tile_mirror_rows, tb_tile_transpose, tb_tile_turn_left, tb_tile_turn_right, tb_to_planes,
@@ -49,7 +50,7 @@ impl Gauge {
 /// Measures a call once on each sort of input.
 type Measure = fn(&mut Gauge);
 
-const CALLS: [(&str, Measure); 32] = [
+const CALLS: [(&str, Measure); 33] = [
     ("(none)", |gauge| gauge.measure(|| ())),
     ("tb_gather", |gauge| masked(gauge, tb_gather)),
     ("tb_scatter", |gauge| masked(gauge, tb_scatter)),
@@ -101,6 +102,16 @@ const CALLS: [(&str, Measure); 32] = [
         let size = size(&mut gauge.random);
         let word = word(&mut gauge.random, 64);
         gauge.measure(|| tb_exchange(size, word));
+    }),
+    ("tb_despeckle", |gauge| {
+        let random = &mut gauge.random;
+        let shape = random.pick(&LONGEST_SHAPES);
+        let longest = Plane::any(random, shape).words;
+        let length = longest.len();
+        for (plane, (rows, row_words), out_length) in [(longest, shape, length), plane(random)] {
+            let mut out = vec![0; out_length];
+            gauge.measure(|| tb_despeckle(&plane, rows, row_words, &mut out));
+        }
     }),
     ("tb_operate", |gauge| {
         let [kind, r1, r2, r3] = operation(&mut gauge.random);

@@ -4,9 +4,9 @@
 //! Each definition goes bit by bit and follows the sentence that it quotes, of
 //! paper 01 where no other is named. Nothing here is meant to be fast, and
 //! nothing is shared with the library. The papers' "line" is a bit here, and so is
-//! a tile's "dot"; their "column" is a stage where it is not a tile's, their
-//! "settings" are controls, their "order" is a permutation, their "strip" a list of
-//! words.
+//! a tile's "dot", while a plane's is a pixel; their "column" is a stage where it is
+//! not a tile's, their "settings" are controls, their "order" is a permutation, their
+//! "strip" a list of words.
 
 pub mod bits;
 pub mod decoder;
@@ -14,6 +14,7 @@ pub mod gather;
 pub mod network;
 pub mod packing;
 pub mod permutation;
+pub mod pixels;
 pub mod planes;
 pub mod prepared;
 pub mod refusal;

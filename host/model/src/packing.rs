@@ -7,7 +7,7 @@ use crate::refusal::{Answer, RANGE, SHORT, SPARE};
 const WIDTH: usize = 64;
 
 /// "either strip above 2,048 words"
-const LONGEST: usize = 2_048;
+pub(crate) const LONGEST: usize = 2_048;
 
 /// Paper 02, of the count of marked lines: "Pack and unpack answer it too,
 /// beside the bits. A refused call shows 0."

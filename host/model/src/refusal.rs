@@ -1,5 +1,5 @@
-//! Refused calls ("Calls turned back" of paper 01, requests 02 and 05 of paper 02):
-//! the numbers, and the lowest of them.
+//! Refused calls ("Calls turned back" of paper 01, requests 02, 05 and 06 of paper
+//! 02): the numbers, and the lowest of them.
 
 /// The answer's number where the call is carried out.
 pub const NONE: u8 = 0;
@@ -29,6 +29,8 @@ pub const SHORT: u8 = 10;
 pub const SPARE: u8 = 11;
 /// Paper 02: "another subword size"
 pub const SUBWORD: u8 = 12;
+/// Paper 02: "h or v is zero, or v×h differs from the first strip's length"
+pub const PLANE: u8 = 13;
 
 /// The answer of a call.
 #[derive(Clone, Copy, Debug, PartialEq, Eq)]

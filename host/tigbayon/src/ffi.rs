@@ -274,6 +274,14 @@ mod by_pointer {
             out: *mut u64,
             out_length: usize,
         ) -> TbPacked;
+        pub fn tb_despeckle(
+            plane: *const u64,
+            length: usize,
+            rows: usize,
+            row_words: usize,
+            out: *mut u64,
+            out_length: usize,
+        ) -> u8;
         pub fn tb_run(
             bank: &mut TbBank,
             operations: *const u8,
@@ -337,6 +345,24 @@ pub fn tb_unpack(mask: u64, packed: &[u64], a: usize, b: usize, out: &mut [u64])
             length,
             a,
             b,
+            out.as_mut_ptr(),
+            out_length,
+        )
+    }
+}
+
+/// See [`crate::despeckle()`].
+#[inline]
+#[allow(unsafe_code)]
+pub fn tb_despeckle(plane: &[u64], rows: usize, row_words: usize, out: &mut [u64]) -> u8 {
+    let (length, out_length) = (plane.len(), out.len());
+    // Safe, as in tb_pack.
+    unsafe {
+        by_pointer::tb_despeckle(
+            plane.as_ptr(),
+            length,
+            rows,
+            row_words,
             out.as_mut_ptr(),
             out_length,
         )

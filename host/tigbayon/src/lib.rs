@@ -10,14 +10,16 @@
 //! [`to_planes`], and back by [`from_planes`]. A tile is a word of 8 by 8 bits, which
 //! [`tile_turn_left`] and its like move by row and column. [`check`], [`excheck`],
 //! [`mix_left`], [`mix_right`] and [`exchange`] move subwords of 1, 2, 4, 8, 16 or
-//! 32 bits. A [`Bank`] holds the registers of a unit that performs lists of
-//! operations of width 64. Each function here is answered for every input: with its
-//! result, or with the lowest [`Refusal`] that applies.
+//! 32 bits. A plane of pixels is a list of words, a row after the other from the top,
+//! and [`despeckle`] puts out its lone pixels. A [`Bank`] holds the registers of a
+//! unit that performs lists of operations of width 64. Each function here is answered
+//! for every input: with its result, or with the lowest [`Refusal`] that applies.
 
 mod ffi;
 mod gather;
 mod network;
 mod packing;
+mod pixels;
 mod planes;
 mod prepared;
 mod refusal;
@@ -28,8 +30,8 @@ mod unit;
 
 #[doc(hidden)]
 pub use ffi::{
-    tb_butterfly, tb_butterfly_prepared, tb_check, tb_decode, tb_exchange, tb_excheck,
-    tb_from_planes, tb_gather, tb_group, tb_inverse, tb_inverse_prepared, tb_mix_left,
+    tb_butterfly, tb_butterfly_prepared, tb_check, tb_decode, tb_despeckle, tb_exchange,
+    tb_excheck, tb_from_planes, tb_gather, tb_group, tb_inverse, tb_inverse_prepared, tb_mix_left,
     tb_mix_right, tb_operate, tb_pack, tb_prepare_butterfly, tb_prepare_inverse, tb_read, tb_route,
     tb_route_butterfly, tb_route_inverse, tb_run, tb_scatter, tb_tile_mirror_columns,
     tb_tile_mirror_rows, tb_tile_transpose, tb_tile_turn_left, tb_tile_turn_right, tb_to_planes,
@@ -39,6 +41,7 @@ pub use ffi::{
 pub use gather::{gather, group, scatter, Gathered};
 pub use network::{butterfly, decode, inverse, Controls, Decoded};
 pub use packing::{pack, unpack, Packed};
+pub use pixels::despeckle;
 pub use planes::{from_planes, to_planes};
 pub use prepared::{PreparedButterfly, PreparedInverse};
 pub use refusal::Refusal;

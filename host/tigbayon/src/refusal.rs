@@ -35,11 +35,14 @@ pub enum Refusal {
     Spare = 11,
     /// The subword size is not 1, 2, 4, 8, 16 or 32.
     Subword = 12,
+    /// The plane has no rows, or no words in a row, or its length is not their
+    /// product.
+    Plane = 13,
 }
 
 impl Refusal {
     /// Every refusal, by rising number.
-    pub const ALL: [Refusal; 12] = [
+    pub const ALL: [Refusal; 13] = [
         Refusal::Width,
         Refusal::Above,
         Refusal::Unused,
@@ -52,6 +55,7 @@ impl Refusal {
         Refusal::Short,
         Refusal::Spare,
         Refusal::Subword,
+        Refusal::Plane,
     ];
 
     /// The number, which is part of the interface.
@@ -79,6 +83,7 @@ impl Refusal {
             Refusal::Short => "other list of words shorter than its bits need",
             Refusal::Spare => "spare bit of the last packed word read is one",
             Refusal::Subword => "subword size not 1, 2, 4, 8, 16, 32",
+            Refusal::Plane => "no rows, no words in a row, or the plane's length not their product",
         }
     }
 

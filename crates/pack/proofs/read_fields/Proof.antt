@@ -1,6 +1,6 @@
 -- `pack::read_fields` meets its contract. Assumes nothing.
 use mathlib.Core.Path.{_≡_, _∙_, ap}
-use Prim.Native.Nat.{ℕ, _+_, _-_, _*_}
+use Prim.Native.Nat.{ℕ, _+_, _*_}
 use native.Mathlib.Omega.{arith}
 use borrow.Author.Needs.{needs}
 use lib.ListN.{length}
@@ -8,7 +8,7 @@ use Rattle.bits.proofs.Rank.{rank-le}
 use Rattle.bits.specs.Bit.{upTo}
 use Rattle.pack.specs.Fields.{sizeOf, scatteredAt}
 use Rattle.pack.specs.Cursor.{Awaits}
-use Rattle.pack.proofs.FilledLists.{fill-none, fill-next, fill-all}
+use Rattle.bits.proofs.FilledLists.{fill-none, fill-next, fill-all}
 use Rattle.pack.proofs.Turns.{unpack-starts, unpack-room, unpack-field}
 use Rattle.pack.proofs.WholeWords.{copied-unpacked}
 use Rattle.pack.proofs.read_fields.Statement.{statement}

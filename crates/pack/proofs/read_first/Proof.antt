@@ -1,13 +1,13 @@
 -- `pack::read_first` meets its contract. Assumes nothing.
 use mathlib.Core.Path.{_≡_, _∙_}
-use Prim.Native.Nat.{_+_, _≤_, _*_, _%_}
+use Prim.Native.Nat.{_*_, _%_}
 use native.Mathlib.Omega.{arith}
 use borrow.Author.Needs.{needs}
 use lib.ListN.{length, set, length-set}
 use Rattle.bits.proofs.Rank.{rank-le}
 use Rattle.pack.specs.Fields.{sizeOf, scatteredAt}
 use Rattle.pack.specs.Cursor.{Awaits}
-use Rattle.pack.proofs.FilledLists.{fill-none, fill-next, fill-less}
+use Rattle.bits.proofs.FilledLists.{fill-none, fill-next, fill-less}
 use Rattle.pack.proofs.Turns.{unpack-starts, unpack-room, unpack-turn, unpack-field}
 use Rattle.pack.proofs.read_first.Statement.{statement}
 use Rattle.pack.proofs.read_first.Tie as tie

@@ -4,10 +4,11 @@ use Prim.Native.Nat.{_+_, _≤_, _<_, _-_, _*_, _%_}
 use native.Mathlib.Omega.{arith}
 use borrow.Author.Needs.{needs}
 use lib.ListN.{length, length-set}
+use Rattle.bits.specs.Bit.{overwritten}
 use Rattle.bits.proofs.Rank.{rank-le}
-use Rattle.pack.specs.Fields.{sizeOf, scatteredAt, overwritten}
+use Rattle.pack.specs.Fields.{sizeOf, scatteredAt}
 use Rattle.pack.specs.Cursor.{Awaits}
-use Rattle.pack.proofs.FilledLists.{fill-next, fill-own, fill-all}
+use Rattle.bits.proofs.FilledLists.{fill-next, fill-own, fill-all}
 use Rattle.pack.proofs.Turns.{unpack-room, unpack-turn, unpack-field}
 use Rattle.pack.proofs.read_pairs.Statement.{statement}
 use Rattle.pack.proofs.read_pairs.Tie as tie

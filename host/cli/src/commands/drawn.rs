@@ -1,4 +1,4 @@
-//! The answer of a command that finds controls: their words, or drawings.
+//! The answer of a command that draws: drawings, or what it prints without them.
 
 use crate::answer::Answer;
 use crate::args::{unexpected, Given};
@@ -7,20 +7,23 @@ use crate::drawing::{svg, text, Drawing};
 use crate::failure::Failure;
 use crate::number::Base;
 
-/// The options of such a command.
+/// The options of a command that finds controls.
 pub const CHOICES: [Choice; 3] = [
     Choice::flag("--text", "draw the networks in characters"),
-    Choice::valued(
-        "--svg",
-        "FILE",
-        "draw them into the file, or with - to the output",
-    ),
+    SVG,
     Choice::valued(
         "--bit",
         "N",
         "the bit to follow; else the one that goes farthest",
     ),
 ];
+
+/// The option of a drawing in a file.
+pub const SVG: Choice = Choice::valued(
+    "--svg",
+    "FILE",
+    "draw them into the file, or with - to the output",
+);
 
 /// What there is to know about them.
 pub const NOTES: &str = "\
@@ -31,27 +34,54 @@ bit stands out.
 /// The file name that means the standard output.
 const OUTPUT: &str = "-";
 
-/// The answer: the controls, or the drawings that are asked for.
+/// The answer of a command that finds controls: these, or the drawings asked for.
 pub fn answer(given: &Given, drawing: Drawing) -> Result<Answer, Failure> {
     let drawing = Drawing {
         bit: followed(given, &drawing)?,
         ..drawing
     };
-    let svg = given.option("--svg").map(|name| name.text());
-    if svg == Some(OUTPUT) {
-        if given.has("--text") {
-            let problem = "--svg - and --text both write to the output";
-            return Err(Failure::argument(problem.to_string()));
-        }
-        return Ok(Answer::of(svg::draw(&drawing)));
-    }
-    let output = if given.has("--text") {
-        text::draw(&drawing)
-    } else {
-        controls(&drawing)
+    let forms = Forms {
+        plain: || controls(&drawing),
+        text: || text::draw(&drawing),
+        svg: || svg::draw(&drawing),
     };
-    let file = svg.map(|name| (name.to_string(), svg::draw(&drawing)));
-    Ok(Answer { output, file })
+    forms.asked_for(given)
+}
+
+/// What there is to print: without a drawing, as one in characters, and as one in SVG.
+pub struct Forms<P, T, S> {
+    /// Without a drawing.
+    pub plain: P,
+    /// In characters, by `--text`.
+    pub text: T,
+    /// In SVG, by `--svg`.
+    pub svg: S,
+}
+
+impl<P, T, S> Forms<P, T, S>
+where
+    P: Fn() -> String,
+    T: Fn() -> String,
+    S: Fn() -> String,
+{
+    /// The answer in the forms asked for.
+    pub fn asked_for(&self, given: &Given) -> Result<Answer, Failure> {
+        let svg = given.option("--svg").map(|name| name.text());
+        if svg == Some(OUTPUT) {
+            if given.has("--text") {
+                let problem = "--svg - and --text both write to the output";
+                return Err(Failure::argument(problem.to_string()));
+            }
+            return Ok(Answer::of((self.svg)()));
+        }
+        let output = if given.has("--text") {
+            (self.text)()
+        } else {
+            (self.plain)()
+        };
+        let file = svg.map(|name| (name.to_string(), (self.svg)()));
+        Ok(Answer { output, file })
+    }
 }
 
 /// The bit to follow.

@@ -12,9 +12,10 @@ use tigbayon::{Packed, Refusal};
 const OUT: [&str; 2] = ["--out", "--length"];
 
 /// A list of more than 2,048 words is refused, whatever its length and words.
-const TOO_LONG: usize = 2049;
+pub const TOO_LONG: usize = 2049;
 
-const CHOICES: [Choice; 2] = [
+/// The same, with what they mean.
+pub const OUT_CHOICES: [Choice; 2] = [
     Choice::valued(OUT[0], "WORDS", "the words to write into, hexadecimal"),
     Choice::valued(
         OUT[1],
@@ -56,7 +57,7 @@ pub const PACK: Command = Command {
         A,
         B,
     ],
-    options: &[&CHOICES],
+    options: &[&OUT_CHOICES],
     notes: &[NOTES],
     refusals: &[Refusal::Range, Refusal::Short],
     examples: &[
@@ -96,7 +97,7 @@ pub const UNPACK: Command = Command {
         A,
         B,
     ],
-    options: &[&CHOICES],
+    options: &[&OUT_CHOICES],
     notes: &[NOTES, SPARE_NOTES],
     refusals: &[Refusal::Range, Refusal::Short, Refusal::Spare],
     examples: &[
@@ -143,7 +144,7 @@ fn between_lists(
 }
 
 /// The words to write into.
-fn out(given: &Given, enough: impl FnOnce() -> usize) -> Result<Vec<u64>, Failure> {
+pub fn out(given: &Given, enough: impl FnOnce() -> usize) -> Result<Vec<u64>, Failure> {
     given.at_most_one(OUT)?;
     if let Some(words) = given.option(OUT[0]) {
         return words.numbers(Base::Hexadecimal);

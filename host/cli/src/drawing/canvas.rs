@@ -1,5 +1,6 @@
 //! Writes the elements of an SVG drawing.
 
+use super::palette::{RULE, SHEET};
 use std::ops::Range;
 
 /// An SVG drawing as far as it is written.
@@ -36,6 +37,14 @@ impl Canvas {
             inside(canvas);
         });
         canvas.text
+    }
+
+    /// The sheet behind all, of the size of the whole.
+    pub fn sheet(&mut self, size: (i32, i32)) {
+        let (width, height) = (size.0 - 1, size.1 - 1);
+        let sheet = format!(r#"x="0.5" y="0.5" width="{width}" height="{height}" rx="12""#);
+        let look = format!("{} {}", fill(SHEET), stroke(RULE, 1.0));
+        self.element("rect", &format!("{sheet} {look}"));
     }
 
     /// A group of elements that share attributes.

@@ -2,7 +2,7 @@
 
 use super::canvas::{fill, stroke, Anchor, Canvas, ROUND};
 use super::palette::{INK, PASS, PATH, QUIET, SWAP};
-use super::{curves, Drawing};
+use super::{curves, pixels, Drawing};
 use crate::network::Switch;
 use crate::number::hex;
 
@@ -10,6 +10,8 @@ use crate::number::hex;
 const SIGN: i32 = 30;
 /// About how wide a letter is.
 const LETTER: i32 = 7;
+/// How high and wide a pixel is.
+const PIXEL: i32 = 12;
 /// Between an entry and the next.
 const GAP: i32 = 28;
 
@@ -26,6 +28,8 @@ enum Sign {
     Switch { passes: bool },
     Path,
     Mark,
+    Lit,
+    Out,
 }
 
 /// The entries for what a drawing shows, from this place on.
@@ -39,6 +43,18 @@ pub fn of(drawing: &Drawing, start: i32) -> Vec<Entry> {
     if let Some(mask) = drawing.mask {
         signs.push((Sign::Mark, format!("marked by {}", hex(mask))));
     }
+    entries(signs, start)
+}
+
+/// The entries for pixels, whose signs are narrower, from this place on.
+pub fn of_pixels(start: i32) -> Vec<Entry> {
+    let signs = [(Sign::Lit, "lit"), (Sign::Out, "went out")];
+    let signs = signs.map(|(sign, text)| (sign, text.to_string()));
+    entries(signs, start - (SIGN - PIXEL))
+}
+
+/// The entries of these signs and texts, side by side from this place on.
+fn entries(signs: impl IntoIterator<Item = (Sign, String)>, start: i32) -> Vec<Entry> {
     let mut x = start;
     let place = |(sign, text)| {
         let entry = Entry { x, sign, text };
@@ -65,9 +81,20 @@ impl Entry {
             Sign::Mark => {
                 canvas.pill((self.x + SIGN / 2, y), (SIGN, 14), &fill(INK));
             }
+            Sign::Lit => {
+                canvas.path(&fill(INK), &pixels::square(self.pixel(y), PIXEL));
+            }
+            Sign::Out => {
+                canvas.path(&pixels::out(PIXEL), &pixels::ring(self.pixel(y), PIXEL));
+            }
         }
         let place = (self.x + SIGN + 10, y + 4);
         canvas.text(place, Anchor::Start, &fill(QUIET), &self.text);
+    }
+
+    /// The top left of a pixel beside the text.
+    fn pixel(&self, y: i32) -> (i32, i32) {
+        (self.x + SIGN - PIXEL, y - PIXEL / 2)
     }
 
     fn switch(&self, canvas: &mut Canvas, y: i32, passes: bool) {

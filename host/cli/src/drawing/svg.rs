@@ -6,7 +6,7 @@
 
 use super::canvas::{fill, stroke, Canvas, ROUND};
 use super::layout::{padded, Layout, Scale, MARGIN, PAD};
-use super::palette::{BAND, INK, MONO, PASS, PATH, RULE, SANS, SHEET, SWAP};
+use super::palette::{BAND, INK, MONO, PASS, PATH, SANS, SHEET, SWAP};
 use super::{curves, legend, words, Drawing};
 use std::iter::zip;
 use std::ops::Range;
@@ -25,7 +25,7 @@ pub fn draw(drawing: &Drawing) -> String {
         });
         let words = format!(r#"font-family="{SANS}" font-size="12" fill="{INK}""#);
         canvas.group(&words, |canvas| {
-            words::caption(canvas, &drawing.caption, layout);
+            words::caption(canvas, &drawing.caption, layout.size.0);
             words::headings(canvas, drawing, layout);
             let y = layout.size.1 - MARGIN;
             entries.iter().for_each(|entry| entry.draw(canvas, y));
@@ -42,10 +42,7 @@ pub fn draw(drawing: &Drawing) -> String {
 
 /// The sheet, and a band behind each stage.
 fn background(canvas: &mut Canvas, layout: &Layout) {
-    let (width, height) = (layout.size.0 - 1, layout.size.1 - 1);
-    let sheet = format!(r#"x="0.5" y="0.5" width="{width}" height="{height}" rx="12""#);
-    let look = format!("{} {}", fill(SHEET), stroke(RULE, 1.0));
-    canvas.element("rect", &format!("{sheet} {look}"));
+    canvas.sheet(layout.size);
     for x in &layout.stages {
         canvas.rect(padded(x), layout.band(), PAD, &fill(BAND));
     }

@@ -8,12 +8,12 @@ use crate::number::hex;
 use std::iter::zip;
 use std::ops::Range;
 
-/// Title and detail, cut off where the sheet ends.
-pub fn caption(canvas: &mut Canvas, caption: &Caption, layout: &Layout) {
+/// Title and detail, cut off where the sheet, which is so wide, ends.
+pub fn caption(canvas: &mut Canvas, caption: &Caption, width: i32) {
     let Caption { title, detail } = caption;
     let look = r#"font-size="19" font-weight="600""#;
     canvas.text((MARGIN, MARGIN + 14), Anchor::Start, look, title);
-    let room = (layout.size.0 - 2 * MARGIN) / 8;
+    let room = (width - 2 * MARGIN) / 8;
     let look = format!(r#"font-size="13" {}"#, fill(QUIET));
     canvas.text(
         (MARGIN, MARGIN + 37),

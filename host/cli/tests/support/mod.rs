@@ -3,6 +3,7 @@
 #![allow(dead_code, reason = "no test file uses all of it")]
 
 pub mod drawn;
+pub mod elements;
 
 use std::fs;
 use std::path::{Path, PathBuf};
@@ -72,4 +73,19 @@ pub fn folder(name: &str) -> PathBuf {
 /// Numbers as a list.
 pub fn list(numbers: &[u8]) -> String {
     Vec::from_iter(numbers.iter().map(u8::to_string)).join(",")
+}
+
+/// Words as a list.
+pub fn hex_list(words: &[u64]) -> String {
+    let words = words.iter().map(|word| format!("{word:x}"));
+    Vec::from_iter(words).join(",")
+}
+
+/// The words of a list that was printed.
+pub fn read_words(printed: &str) -> Vec<u64> {
+    let words = printed.trim_end().split(',');
+    let words = words.map(|word| word.strip_prefix("0x").unwrap());
+    words
+        .map(|word| u64::from_str_radix(word, 16).unwrap())
+        .collect()
 }

@@ -216,6 +216,38 @@ static void print_subwords(void)
     print_carried("exchange", tb_exchange(12, first));
 }
 
+static void print_despeckled(uint8_t answer, const uint64_t out[5])
+{
+    printf("despeckle %u:", (unsigned)answer);
+    print_words(out, 5);
+}
+
+static void print_pixels(void)
+{
+    static uint64_t zeros[2049];
+    uint64_t plane[4] = {1, 0x8000000000000000, 0x4000000000000005, 0};
+    const size_t half = (size_t)1 << 32;
+    uint64_t out[5] = {7, 7, 7, 7, 7};
+
+    print_despeckled(tb_despeckle(plane, 4, 2, 2, out, 5), out);
+    print_despeckled(tb_despeckle(plane, 4, 4, 1, out, 5), out);
+    print_despeckled(tb_despeckle(plane, 4, 1, 4, out, 4), out);
+    print_despeckled(tb_despeckle(zeros, 2049, 1, 4, out, 5), out);
+    print_despeckled(tb_despeckle(plane, 4, 1, 4, zeros, 2049), out);
+    print_despeckled(tb_despeckle(plane, 4, 2, 2, out, 3), out);
+    print_despeckled(tb_despeckle(plane, 4, half, half, out, 5), out);
+    print_despeckled(tb_despeckle(plane, 1, SIZE_MAX, SIZE_MAX, out, 1), out);
+    print_despeckled(tb_despeckle(plane, 4, 2, 1, out, 5), out);
+    print_despeckled(tb_despeckle(plane, 4, 0, SIZE_MAX, out, 5), out);
+    print_despeckled(tb_despeckle(NULL, 0, 1, 1, NULL, 0), out);
+    print_despeckled(tb_despeckle(NULL, 0, 0, 0, NULL, 0), out);
+    print_despeckled(tb_despeckle(NULL, 0, 1, 4, out, 5), out);
+    print_despeckled(tb_despeckle(plane, 4, 1, 4, NULL, 0), out);
+    print_despeckled(tb_despeckle(zeros, 2048, 32, 64, zeros, 0), out);
+    printf("plane:");
+    print_words(plane, 4);
+}
+
 static void print_run(TbRun answer, const TbBank *bank)
 {
     printf("run %u %u %" PRIu32 " %" PRIu32 ": %" PRIx64 "\n", (unsigned)answer.refusal,
@@ -272,10 +304,11 @@ int main(void)
     const TbControls2 decoded = tb_decode(8, 0xAD);
 
     print_layouts();
-    printf("numbers %d %d %d %d %d %d %d %d %d %d %d %d %d\n", TB_CARRIED_OUT, TB_REFUSAL_WIDTH,
-           TB_REFUSAL_ABOVE, TB_REFUSAL_UNUSED, TB_REFUSAL_LENGTH, TB_REFUSAL_ENTRY,
-           TB_REFUSAL_NOT_REALISED, TB_REFUSAL_KIND, TB_REFUSAL_REGISTER, TB_REFUSAL_RANGE,
-           TB_REFUSAL_SHORT, TB_REFUSAL_SPARE, TB_REFUSAL_SUBWORD);
+    printf("numbers %d %d %d %d %d %d %d %d %d %d %d %d %d %d\n", TB_CARRIED_OUT,
+           TB_REFUSAL_WIDTH, TB_REFUSAL_ABOVE, TB_REFUSAL_UNUSED, TB_REFUSAL_LENGTH,
+           TB_REFUSAL_ENTRY, TB_REFUSAL_NOT_REALISED, TB_REFUSAL_KIND, TB_REFUSAL_REGISTER,
+           TB_REFUSAL_RANGE, TB_REFUSAL_SHORT, TB_REFUSAL_SPARE, TB_REFUSAL_SUBWORD,
+           TB_REFUSAL_PLANE);
     print_gathered("gather", tb_gather(8, 0xAD, 0xB6));
     print_gathered("scatter", tb_scatter(8, 0xAD, 0x1A));
     print_gathered("group", tb_group(8, 0xAD, 0xB6));
@@ -297,6 +330,7 @@ int main(void)
     print_planes();
     print_tiles();
     print_subwords();
+    print_pixels();
     print_unit();
     return 0;
 }

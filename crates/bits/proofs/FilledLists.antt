@@ -6,9 +6,8 @@ use native.Mathlib.Omega.{arith}
 use native.Mathlib.Numerals.{add-one}
 use lib.ListN.{length, getD, drop, set, length-append, length-drop, drop-of-length-le}
 use lib.Seq.{drop-cons, drop-at, set-at}
-use Rattle.bits.specs.Bit.{upTo}
+use Rattle.bits.specs.Bit.{upTo, overwritten}
 use Rattle.bits.proofs.UpTo.{length-upTo}
-use Rattle.pack.specs.Fields.{overwritten}
 
 module _ (f : ℕ → ℕ) where
   pub length-overwritten : (j : ℕ) (old : List ℕ) → length (overwritten j f old) ≡ j + (length old - j)

@@ -1,0 +1,7 @@
+pub mod Sliding
+pub mod Frame
+pub mod Rows
+pub mod PlaneAnswers
+pub mod Rule
+pub mod Theorems
+pub mod Drawn

@@ -1,0 +1,4 @@
+pub mod Plane
+pub mod Calls
+pub mod Window
+pub mod Beside
