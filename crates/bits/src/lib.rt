@@ -27,7 +27,7 @@ pub const REGISTER: u8 = 8; // a register number in use above 15
 
 pub const RANGE: u8 = 9; // a is above b, b is above the length of the words that a and b cut, or either list of words is above 2,048
 
-pub const SHORT: u8 = 10; // the other list of words is shorter than its bits or its pixels need
+pub const SHORT: u8 = 10; // the other list of words is shorter than its bits need
 
 pub const SPARE: u8 = 11; // a spare bit of the last packed word read is one (paper 02, Req 02)
 

@@ -11,7 +11,7 @@ use lib.ListN.{length}
 use borrow.Author.Tests.{lt-ltb, le-ltb, eq-eqb, ne-eqb, eqb-true, eqb-false, ltb-false, not-false}
 use Rattle.bits.specs.Bit.{overwritten}
 use Rattle.bits.specs.Refusal.{lowest, AnswersLowest}
-use Rattle.bits.proofs.Refusals.{answers-leaving, none-applies, neither}
+use Rattle.bits.proofs.Refusals.{answers-leaving, left-done, left-refused, none-applies, neither}
 use Rattle.despeckle.specs.Plane.{newWord}
 use Rattle.despeckle.specs.Window.{IsPlane}
 use Rattle.despeckle.specs.Calls.{planeConditions, planeRefusal, despeckleAnswer, despeckledOut}
@@ -72,6 +72,14 @@ is-plane ws h v other w = record {
   words-limit = omega (arith, no-less {h = v} (w .some-rows), mul-comm h v, w .whole, w .own-limit);
   whole = w .whole;
 }
+
+-- what the call answers and leaves, from the number that the code found
+module _ (ws : List ℕ) (h v : ℕ) (out : List ℕ) {n : ℕ} (e : n ≡ despeckleAnswer ws h v out) where
+  pub plane-refused : (n ≡ 0 → ⊥) → (n ≡ despeckleAnswer ws h v out) × (out ≡ despeckledOut ws h v out)
+  plane-refused z = (e, sym (left-refused (λ q. z (e ∙ q)) _ out))
+
+  pub plane-done : n ≡ 0 → {left : List ℕ} → left ≡ overwritten (v * h) (newWord ws v h) out → (n ≡ despeckleAnswer ws h v out) × (left ≡ despeckledOut ws h v out)
+  plane-done z l = (e, l ∙ sym (left-done (sym e ∙ z) _ out))
 
 -- demand 1, of the answer and of the words lent
 pub despeckle-lowest : (ws : List ℕ) (h v : ℕ) (out : List ℕ)

@@ -89,7 +89,7 @@ module _ (g : ℕ → ℕ → ℕ) (y x : ℕ) where
           let d : (i - 1) / 3 ≡ i / 3 = omega (arith, z) in
           rw (ne-eqb _ _ z, bit-window g y x (i - 1) (omega arith), d, e) (omega arith)
 
-  pub slid : (i : ℕ) → i < 9 → bit (bitOr (bitAnd (window g y x) 219 * 2 ^ 1 % 2 ^ 64) (columnOf (g y (x + 3)) (g (y + 1) (x + 3)) (g (y + 2) (x + 3)))) i
+  slid : (i : ℕ) → i < 9 → bit (bitOr (bitAnd (window g y x) 219 * 2 ^ 1 % 2 ^ 64) (columnOf (g y (x + 3)) (g (y + 1) (x + 3)) (g (y + 2) (x + 3)))) i
       ≡ bit (window g y (x + 1)) i
   slid i h =
       bit-or _ _ i
@@ -130,9 +130,9 @@ passes-none above own below h = record {
 }
 
 module _ (above own below : ℕ) {start column number word : ℕ} where
-  pub passes-one : start < 2 ^ 9 → Slides start column number → column ≡ columnOf above own below → word ≡ litRule start → Passes 1 start above own below number word
+  pub passes-one : Slides start column number → column ≡ columnOf above own below → word ≡ litRule start → Passes 1 start above own below number word
   unfolding ofBits
-  passes-one h s e w = record {
+  passes-one s e w = record {
     small = s .small;
     fits = omega (arith, w, rule-lt start);
     passed = λ g y x n c. (s .next g y x n (e ∙ same g y x c), w ∙ new g y x n);

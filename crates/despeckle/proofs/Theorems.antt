@@ -78,45 +78,46 @@ module _ (v h : ℕ) where
   abbrev lit : List ℕ
   lit = replicate (v * h) (2 ^ 64 - 1)
 
+  word-alike : (w k : ℕ) → k < v * h → getD (replicate (v * h) w) k 0 ≡ w
+  word-alike w k l = getD-replicate (v * h) k w 0 l
+
+  pixel-alike : (w y x : ℕ) → y < h → x < 64 * v → pixel (replicate (v * h) w) v h y x ≡ bit w (63 - x % 64)
+  pixel-alike w y x a b =
+      pixel-within (replicate (v * h) w) v h y x a b
+      ∙ ap (λ (n : ℕ). bit n (63 - x % 64)) (word-alike w (y * v + x / 64) (index-lt y (x / 64) a (omega arith)))
+
   pub dark-plane : despeckled (replicate (v * h) 0) v h ≡ replicate (v * h) 0
   dark-plane =
-      comes-back dark v h (length-replicate (v * h) 0) (λ k l. omega (arith, getD-replicate {A = ℕ} (v * h) k 0 0 l))
-      (λ y x a b. let z = none y x a b in dark-stays dark v h y x z ∙ sym z)
-    where
-      none : (y x : ℕ) → y < h → x < 64 * v → pixel dark v h y x ≡ 0
-      none y x a b =
-          pixel-within dark v h y x a b
-          ∙ ap (λ (w : ℕ). bit w (63 - x % 64)) (getD-replicate {A = ℕ} (v * h) (y * v + x / 64) 0 0 (index-lt y (x / 64) a (omega arith)))
-          ∙ bit-of-zero (63 - x % 64)
+      comes-back dark v h (length-replicate (v * h) 0) (λ k l. omega (arith, word-alike 0 k l))
+      (λ y x a b. let z = pixel-alike 0 y x a b ∙ bit-of-zero (63 - x % 64) in dark-stays dark v h y x z ∙ sym z)
 
   pub lit-plane : despeckled (replicate (v * h) (2 ^ 64 - 1)) v h ≡ replicate (v * h) (2 ^ 64 - 1)
   lit-plane =
-      comes-back lit v h (length-replicate (v * h) (2 ^ 64 - 1)) (λ k l. omega (arith, getD-replicate {A = ℕ} (v * h) k (2 ^ 64 - 1) 0 l))
+      comes-back lit v h (length-replicate (v * h) (2 ^ 64 - 1)) (λ k l. omega (arith, word-alike (2 ^ 64 - 1) k l))
       (λ y x a b. new-exactly lit v h y x .1 (one y x a b, beside y x a b (decLt (x + 1) (64 * v))) ∙ sym (one y x a b))
     where
       one : (y x : ℕ) → y < h → x < 64 * v → pixel lit v h y x ≡ 1
-      one y x a b =
-          pixel-within lit v h y x a b
-          ∙ ap (λ (w : ℕ). bit w (63 - x % 64)) (getD-replicate {A = ℕ} (v * h) (y * v + x / 64) (2 ^ 64 - 1) 0 (index-lt y (x / 64) a (omega arith)))
-          ∙ bit-ones 64 (63 - x % 64) (omega arith)
+      one y x a b = pixel-alike (2 ^ 64 - 1) y x a b ∙ bit-ones 64 (63 - x % 64) (omega arith)
 
+      in-row : (y x right : ℕ) → right < 3 → (right ≡ 1 → ⊥) → framed lit v h (y + 1) (x + right) ≡ 1 → LitBeside lit v h y x
+      in-row y x right l n e = record {
+        down = 1;
+        right = right;
+        down-near = omega arith;
+        right-near = l;
+        other = λ q. n (q .1);
+        lit = e;
+      }
+
+      -- the next of the row, or at its end the one before
       beside : (y x : ℕ) → y < h → x < 64 * v → Dec (x + 1 < 64 * v) → LitBeside lit v h y x
-      beside y x a b (yes l) = record {
-        down = 1;
-        right = 2;
-        down-near = omega arith;
-        right-near = omega arith;
-        other = λ q. absurd (omega (arith, q .1));
-        lit = let e : x + 2 ≡ x + 1 + 1 = omega arith in ap (framed lit v h (y + 1)) e ∙ own-pixel lit v h y (x + 1) ∙ one y (x + 1) a l;
-      }
-      beside y x a b (no l) = record {
-        down = 1;
-        right = 0;
-        down-near = omega arith;
-        right-near = omega arith;
-        other = λ q. absurd (omega (arith, q .1));
-        lit = let e : x + 0 ≡ x - 1 + 1 = omega arith in ap (framed lit v h (y + 1)) e ∙ own-pixel lit v h y (x - 1) ∙ one y (x - 1) a (omega arith);
-      }
+      beside y x a b (yes l) =
+          let e : x + 2 ≡ x + 1 + 1 = omega arith in
+          in-row y x 2 (omega arith) (λ z. absurd (omega (arith, z))) (ap (framed lit v h (y + 1)) e ∙ own-pixel lit v h y (x + 1) ∙ one y (x + 1) a l)
+      beside y x a b (no l) =
+          let e : x + 0 ≡ x - 1 + 1 = omega arith in
+          in-row y x 0 (omega arith) (λ z. absurd (omega (arith, z)))
+          (ap (framed lit v h (y + 1)) e ∙ own-pixel lit v h y (x - 1) ∙ one y (x - 1) a (omega arith))
 
 -- Twice is once: a pixel that stays has a lit one beside it, which has that pixel beside it and so stays too.
 module _ (ws : List ℕ) (v h : ℕ) where

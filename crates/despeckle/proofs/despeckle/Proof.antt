@@ -1,10 +1,8 @@
 -- `despeckle::despeckle` meets its contract. Assumes nothing.
-use mathlib.Core.Path.{sym, _∙_}
 use native.Mathlib.Omega.{arith}
 use lib.ListN.{length}
 use borrow.Author.Needs.{needs}
-use Rattle.bits.proofs.Refusals.{left-done, left-refused}
-use Rattle.despeckle.proofs.PlaneAnswers.{PlaneInLimits, plane-within, is-plane}
+use Rattle.despeckle.proofs.PlaneAnswers.{PlaneInLimits, plane-within, is-plane, plane-refused, plane-done}
 use Rattle.despeckle.proofs.despeckle.Statement.{statement}
 use Rattle.despeckle.proofs.despeckle.Tie as tie
 
@@ -12,7 +10,9 @@ refusal-requires : tie.Need-refusal-requires
 refusal-requires c κs = search needs
 
 returns : tie.Need-returns
-returns c = let e = c .before .refusal .ensures in (e, sym (left-refused (λ z. c .if1 .taken (omega (arith, e ∙ z))) _ _))
+returns c =
+    let a = c .before .before .before .before .args in
+    plane-refused (a .plane .now) (a .rows) (a .words) (a .out .now) (c .before .refusal .ensures) (λ z. c .if1 .taken (omega (arith, z)))
 
 -- a call that is not refused is within the limits
 allowed : (c : tie.Else1) → let a = c .before .before .before .before .args in PlaneInLimits (length (a .plane .now)) (a .rows) (a .words) (length (a .out .now))
@@ -27,8 +27,8 @@ same-length c = search needs
 returns-2 : tie.Need-returns-2
 returns-2 c =
     let d = c .before .before .before .before in
-    let e = d .before .refusal .ensures in
-    (e, c .before .before .despeckle-rows .ensures ∙ sym (left-done (omega (arith, e, d .if1 .left)) _ _))
+    let a = d .before .before .before .before .args in
+    plane-done (a .plane .now) (a .rows) (a .words) (a .out .now) (d .before .refusal .ensures) (omega (arith, d .if1 .left)) (c .before .before .despeckle-rows .ensures)
 
 pub despeckle-spec : {M : Type 1} → statement M
 despeckle-spec = tie.close (tie.spec refusal-requires returns despeckle-rows-requires same-length returns-2)

@@ -1,6 +1,6 @@
 -- `despeckle::despeckle_rows` meets its contract: before each turn, the rows above are filled. Assumes nothing.
-use mathlib.Core.Path.{_≡_}
-use Prim.Native.Nat.{_-_, _*_, _≤_}
+use mathlib.Core.Path.{_≡_, sym, _∙_, ap}
+use Prim.Native.Nat.{ℕ, _-_, _*_, _≤_}
 use native.Mathlib.Omega.{arith}
 use native.Mathlib.Nat.{mul-comm, zero-mul}
 use lib.ListN.{length}
@@ -16,7 +16,7 @@ use Rattle.despeckle.proofs.despeckle_rows.Tie as tie
 
 abbrev Inv-loop : tie.InvT-loop
 Inv-loop plane rows words out₀ table row₀ out row =
-    IsTable table × (row ≤ rows) × (length out ≡ length out₀) × (out ≡ overwritten (row * words) (newWord plane words rows) out₀)
+    IsTable table × (out ≡ overwritten (row * words) (newWord plane words rows) out₀) × (row ≤ rows) × (length out ≡ length out₀)
 
 abbrev μ-loop : tie.MeasureT-loop
 μ-loop plane rows words out₀ table row₀ out row = rows - row
@@ -27,13 +27,17 @@ published-table-requires c κs = search needs
 loop-holds : tie.Need-loop-holds Inv-loop μ-loop
 loop-holds c =
     let a = c .before .before .before .args in
-    (rule-at (c .published-table .ensures), search needs, search needs, rw (zero-mul (a .words)) (fill-none (newWord (a .plane .now) (a .words) (a .rows)) (a .out .now)))
+    let f = newWord (a .plane .now) (a .words) (a .rows) in
+    let z : overwritten 0 f (a .out .now) ≡ overwritten (0 * a .words) f (a .out .now) =
+    ap (λ (j : ℕ). overwritten j f (a .out .now)) (sym (zero-mul (a .words)))
+    in
+    (rule-at (c .published-table .ensures), fill-none f (a .out .now) ∙ z, search needs, search needs)
 
 despeckle-row-requires : tie.Need-despeckle-row-requires Inv-loop μ-loop
 despeckle-row-requires c κs =
     let l = c .before .before .before .loop in
     let p = c .before .before .before .before .before .before .before .pre in
-    (l .inv .0, p .0, omega (arith, p .1, l .inv .2), search needs)
+    (l .inv .0, p .0, omega (arith, p .1, l .inv .3), search needs)
 
 add-row : tie.Need-add-row Inv-loop μ-loop
 add-row c = search needs
@@ -45,7 +49,7 @@ loop-again : tie.Need-loop-again Inv-loop μ-loop
 loop-again c =
     let l = c .before .before .before .before .before .before .loop in
     let a = c .before .before .before .before .before .before .before .before .before .before .args in
-    (l .inv .0, search needs, search needs, rw (row-end (l .row) (a .words)) at (c .before .before .despeckle-row .ensures (a .out .now) (l .inv .3)))
+    (l .inv .0, rw (row-end (l .row) (a .words)) at (c .before .before .despeckle-row .ensures (a .out .now) (l .inv .1)), search needs, search needs)
 
 same-length : tie.Need-same-length Inv-loop μ-loop
 same-length c = search needs
@@ -55,7 +59,7 @@ returns c =
     let l = c .before .loop in
     let a = c .before .before .before .before .before .args in
     let z : l .row ≡ a .rows = omega arith in
-    rw (z, mul-comm (a .rows) (a .words)) at (l .inv .3)
+    rw (z, mul-comm (a .rows) (a .words)) at (l .inv .1)
 
 pub despeckle-rows-spec : {M : Type 1} → statement M
 despeckle-rows-spec =

@@ -52,7 +52,7 @@ loop-again c =
     let p = l .place - 1 in (
       search needs,
       passes-on 8 (l .place) p 1 (a .above) (a .own) (a .below) (omega arith) (l .inv .0) (omega arith) (l .inv .1)
-          (passes-one _ _ _ (l .inv .1 .small) (c .slide .ensures) (c .before .column .ensures) (c .before .before .lit .ensures ∙ c .before .before .before .before .before .before .pre .0 .entry (l .number) (l .inv .1 .small))),
+          (passes-one _ _ _ (c .slide .ensures) (c .before .column .ensures) (c .before .before .lit .ensures ∙ c .before .before .before .before .before .before .pre .0 .entry (l .number) (l .inv .1 .small))),
     )
 
 returns : tie.Need-returns Inv-loop μ-loop
