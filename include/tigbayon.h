@@ -32,7 +32,7 @@
 
 /* The version of this header, and of the archive that it belongs to. */
 #define TB_VERSION_MAJOR 0
-#define TB_VERSION_MINOR 7
+#define TB_VERSION_MINOR 8
 #define TB_VERSION_PATCH 0
 
 #ifdef __cplusplus
@@ -209,7 +209,9 @@ typedef struct {
  * result, realise the permutation; there always are some. Any others that do
  * come later: at the first switch where the two sets differ, going through the
  * butterfly's stages and then the inverse's, each from switch 0 up, the first
- * set passes.
+ * set passes. So two sets of controls for both networks, which may differ and
+ * yet move every word alike, do so exactly if this call answers the same for
+ * the permutations that they realise.
  * Refusals: TB_REFUSAL_WIDTH, TB_REFUSAL_LENGTH, TB_REFUSAL_ENTRY.
  */
 TbControls2 tb_route(uint32_t width, const uint8_t *permutation, size_t length);
@@ -217,7 +219,11 @@ TbControls2 tb_route(uint32_t width, const uint8_t *permutation, size_t length);
 /*
  * Route through the butterfly alone: the controls by which tb_butterfly
  * realises the permutation. There is at most one such set; if there is none,
- * the call is refused by TB_REFUSAL_NOT_REALISED.
+ * the call is refused by TB_REFUSAL_NOT_REALISED. So controls that
+ * tb_butterfly accepts, and on which it moves every word of the width alike,
+ * are equal; and for the permutation that controls realise this call answers
+ * these controls. Entry p of it is the bit b for which the word 1 << b comes
+ * out as 1 << p.
  * Refusals: TB_REFUSAL_WIDTH, TB_REFUSAL_LENGTH, TB_REFUSAL_ENTRY,
  * TB_REFUSAL_NOT_REALISED.
  */

@@ -9,7 +9,7 @@ use native.Mathlib.Nat.{mod-lt, zero-add}
 use lib.Bits.{bitAnd, and-le-l, and-le-r}
 use lib.ListN.{length, getD, take, replicate, length-reverse, List·getD-append}
 use lib.Pow.{pow-pos}
-use lib.Seq.{getD-append-add, length-take-le, getD-take}
+use lib.Seq.{ext-getD, getD-append-add, length-take-le, getD-take}
 use borrow.Author.Tests.{lt-ltb, le-ltb}
 use Rattle.bits.specs.Refusal.{logOf, accepted}
 use Rattle.bits.proofs.Refusals.{log-width, log-le}
@@ -36,7 +36,7 @@ getD-zeros (suc n) zero = refl
 getD-zeros (suc n) (suc i) = getD-zeros n i
 
 -- L stages of w/2 control bits each, padded to six, fit
-six-fit : (L : ℕ) (cs : List ℕ) → L ≤ 6 → Uses L cs → controlsFit L 0 (six cs) ≡ true
+pub six-fit : (L : ℕ) (cs : List ℕ) → L ≤ 6 → Uses L cs → controlsFit L 0 (six cs) ≡ true
 six-fit L cs l u = each-fit L 0 (six cs) (λ i h. rw zero-add (at i (decLt i L)))
   where
     at : (i : ℕ) → Dec (i < L) → getD (six cs) i 0 < 2 ^ usedBits L i
@@ -50,11 +50,24 @@ six-fit L cs l u = each-fit L 0 (six cs) (λ i h. rw zero-add (at i (decLt i L))
         in
         rw (le-ltb i L (omega arith)) (omega (arith, z))
 
-stages-fit : (L : ℕ) (cs : List ℕ) → L ≤ 6 → length cs ≡ 6 → controlsFit L 0 cs ≡ true → Uses L (take L cs)
-stages-fit L cs l e g = (length-take-le L cs (omega arith), each)
+-- the stages in use of controls that fit
+pub stages-fit : (L : ℕ) (cs : List ℕ) → L ≤ length cs → controlsFit L 0 cs ≡ true → Uses L (take L cs)
+stages-fit L cs l g = (length-take-le L cs (omega arith), each)
   where
     each : (i : ℕ) → i < L → getD (take L cs) i 0 < 2 ^ (2 ^ L / 2)
     each i h = rw getD-take (rw (zero-add, lt-ltb i L h) at (fit-each L 0 cs g i (omega arith)))
+
+-- and these fix the others, which are zero
+pub stages-same : (L : ℕ) (cs ds : List ℕ) → length cs ≡ length ds → controlsFit L 0 cs ≡ true → controlsFit L 0 ds ≡ true
+    → take L cs ≡ take L ds → cs ≡ ds
+stages-same L cs ds n f g t = ext-getD 0 cs ds n (λ i h. at i h (decLt i L))
+  where
+    unused : (es : List ℕ) → controlsFit L 0 es ≡ true → (i : ℕ) → i < length es → L ≤ i → getD es i 0 ≡ 0
+    unused es e i h l = omega (arith, rw (zero-add, le-ltb i L l) at (fit-each L 0 es e i h))
+
+    at : (i : ℕ) → i < length cs → Dec (i < L) → getD cs i 0 ≡ getD ds i 0
+    at i h (yes l) = sym (getD-take L cs i 0 l) ∙ ap (λ (es : List ℕ). getD es i 0) t ∙ getD-take L ds i 0 l
+    at i h (no l) = unused cs f i h (omega arith) ∙ sym (unused ds g i (omega arith) (omega arith))
 
 reverse-fits : (L : ℕ) (cs : List ℕ) → Uses L cs → Uses L (reverse cs)
 reverse-fits L cs f = (
@@ -134,7 +147,7 @@ calls-back b w k x e h =
     let n = log-width w (i .0) .0 in
     let L = logOf w in
     let cs = take L (k .stages) in
-    let fit = stages-fit L (k .stages) (log-le w) e (i .2) in
+    let fit = stages-fit L (k .stages) (omega (arith, log-le w)) (i .2) in
     let hx : x < 2 ^ 2 ^ L = rw n at (i .1) in
     let y : travelOf b L cs x < 2 ^ w = omega (arith, travel-of-lt b L cs hx, ap (λ (v : ℕ). 2 ^ v) n) in
     rw (network-is (travelOf b) w k x (i .0) (i .1) (i .2), ← used-only L (log-le w) (k .stages) e b x)

@@ -45,16 +45,22 @@ module _ (w : ℕ) (es : List ℕ) (fits : ℕ → List ℕ → Bool) (alone : �
   abbrev L : ℕ
   L = logOf w
 
+  -- a call that is not refused
+  pub one-within : oneRefusal fits w es ≡ 0 → (routeRefusal w es ≡ 0) × (fits (logOf w) es ≡ true)
+  unfolding oneRefusal
+  one-within z =
+      let n = none-applies (oneConditions fits w es) (omega arith) z in
+      (route-refusal-by w es (not-false _ (n .0)) (not-false _ (n .1 .0)) (not-false _ (n .1 .1 .0)), not-false _ (n .1 .1 .1 .0))
+
   module _ {f : ℕ → List ℕ → ℕ → ℕ} (d : DecidesAlone f fits alone) where
     permutes : routeRefusal w es ≡ 0 → ListPermutes (2 ^ logOf w) es
     permutes z = route-permutes w es refl z refl .1
 
     found : oneRefusal fits w es ≡ 0 → ControlsAlone f L (take L (oneAnswer fits alone w es .controls .stages)) es
-    unfolding oneRefusal oneAnswer
+    unfolding oneAnswer
     found z =
-        let n = none-applies (oneConditions fits w es) (omega arith) z in
-        let r = route-refusal-by w es (not-false _ (n .0)) (not-false _ (n .1 .0)) (not-false _ (n .1 .1 .0)) in
-        let c = d .found L es (permutes r) (not-false _ (n .1 .1 .1 .0)) in
+        let i = one-within z in
+        let c = d .found L es (permutes (i .0)) (i .1) in
         rw (z, in-use L (alone L es) (c .0 .0)) c
 
     none : oneRefusal fits w es ≡ 6 → (cs : List ℕ) → ControlsAlone f L cs es → ⊥

@@ -8,3 +8,6 @@ pub mod PermutationAnswers
 pub mod Demand3
 pub mod FirstAnswers
 pub mod AloneAnswers
+pub mod Realising
+pub mod Unique
+pub mod AlikeBoth

@@ -60,6 +60,26 @@ names-permutes w es l e =
       once = λ p q h k n. names-apart w es e p q (omega arith) (omega arith) n;
     }
 
+-- and a permutation is such a list
+
+absent-by : (x : ℕ) (ys : List ℕ) → ((p : ℕ) → p < length ys → x ≡ getD ys p 0 → ⊥) → absent x ys ≡ true
+unfolding absent
+absent-by x [] n = refl
+absent-by x (y ∷ ys) n = ap₂ (λ (a b : Bool). not a && b) (ne-eqb x y (n 0 (omega arith))) (absent-by x ys (λ p h. n (suc p) (omega arith)))
+
+apart-names : (w : ℕ) (es : List ℕ) → ((p : ℕ) → p < length es → getD es p 0 < w)
+    → ((p q : ℕ) → p < length es → q < length es → getD es p 0 ≡ getD es q 0 → p ≡ q) → namesOnce w es ≡ true
+unfolding namesOnce
+apart-names w [] small apart = refl
+apart-names w (x ∷ xs) small apart =
+    let h = lt-ltb x w (small 0 (omega arith)) in
+    let a = absent-by x xs (λ p l e. omega (arith, apart 0 (suc p) (omega arith) (omega arith) e)) in
+    let r = apart-names w xs (λ p l. small (suc p) (omega arith)) (λ p q l k e. omega (arith, apart (suc p) (suc q) (omega arith) (omega arith) e)) in
+    λ i. h i && a i && r i
+
+pub permutes-names : (w : ℕ) (es : List ℕ) → ListPermutes w es → namesOnce w es ≡ true
+permutes-names w es p = apart-names w es (λ q h. p .small q (omega (arith, p .long))) (λ q r h l e. p .once q r (omega (arith, p .long)) (omega (arith, p .long)) e)
+
 -- The code's loop, from the last entry: `seen` marks the entries passed.
 
 pub Seen : ℕ → List ℕ → Type 0

@@ -8,7 +8,7 @@ use Prim.Native.Nat.{ℕ, _^_, _≤_}
 use native.Mathlib.Omega.{arith}
 use lib.Dec.{eqb}
 use lib.ListN.{length}
-use borrow.Author.Tests.{eqb-true, not-false}
+use borrow.Author.Tests.{eqb-true, eq-eqb, not-false}
 use Rattle.bits.specs.Refusal.{logOf, accepted, lowest, IsLowest, AnswersLowest}
 use Rattle.bits.proofs.Refusals.{log-width, log-le, lowest-law, lowest-more, answers-lowest, none-applies}
 use Rattle.network.specs.Calls.{controls}
@@ -17,7 +17,7 @@ use Rattle.permute.specs.declared.Routed.{Routed}
 use Rattle.permute.specs.declared.RoutedOne.{RoutedOne}
 use Rattle.permute.specs.Permutation.{namesOnce}
 use Rattle.permute.specs.Calls.{routeConditions, routeRefusal, routeAnswer, oneConditions, oneRefusal, oneAnswer}
-use Rattle.permute.proofs.Names.{names-permutes}
+use Rattle.permute.proofs.Names.{names-permutes, permutes-names}
 
 -- demand 1 leaves one number
 lowest-only : (cs : List (ℕ × Bool)) (r s : ℕ) → IsLowest cs r → IsLowest cs s → r ≡ s
@@ -46,6 +46,9 @@ module _ (w : ℕ) (es : List ℕ) where
       let p = log-width w (i .0) in
       let v : w ≡ 2 ^ l = p .0 ∙ ap (λ (k : ℕ). 2 ^ k) (sym q) in
       (omega (arith, log-le w), rw v at (names-permutes w es (i .1) (i .2)))
+
+  pub permutes-within : accepted w ≡ true → ListPermutes w es → routeRefusal w es ≡ 0
+  permutes-within a p = route-refusal-by a (eq-eqb (length es) w (p .long)) (permutes-names w es p)
 
   -- demand 1
   pub route-lowest : AnswersLowest (routeConditions w es) (λ a. a .refusal) (λ n. record { refusal = n; butterfly = controls []; inverse = controls [] })

@@ -15,6 +15,7 @@ use Rattle.routing.specs.Stages as place
 use Rattle.routing.specs.FirstControls.{Brings}
 use Rattle.routing.specs.Lists.{Words, entry, butterflyFrom, inverseFrom, fromWords}
 use Rattle.permute.specs.Permutation.{Realises}
+use Rattle.permute.specs.Alike.{throughBoth}
 use Rattle.permute.proofs.Sources.{butterfly-from, inverse-from}
 
 -- If the bit of every place p comes from place f p, then every word comes out permuted exactly if f is the permutation.
@@ -46,10 +47,7 @@ module _ (L : ℕ) (cs : List ℕ) (long : length cs ≡ L) (x p : ℕ) (h : x <
   inverse-bit = bit-travel (2 ^ L) (rising L) cs (rising-fit L (omega arith)) x p l ∙ ap (bit x) (sym (inverse-from L cs long p))
 
 module _ (L : ℕ) (k : Words) (b : length (k .butterfly) ≡ L) (i : length (k .inverse) ≡ L) where
-  abbrev through : ℕ → ℕ
-  through x = inverseOf L (k .inverse) (butterflyOf L (k .butterfly) x)
-
-  through-bit : (x p : ℕ) → x < 2 ^ 2 ^ L → p < 2 ^ L → bit (through x) p ≡ bit x (place.network L (fromWords L k) p)
+  through-bit : (x p : ℕ) → x < 2 ^ 2 ^ L → p < 2 ^ L → bit (throughBoth L k x) p ≡ bit x (place.network L (fromWords L k) p)
   unfolding place.network
   through-bit x p h l =
       let q = place.inverse L (inverseFrom (k .inverse)) p in
@@ -57,12 +55,12 @@ module _ (L : ℕ) (k : Words) (b : length (k .butterfly) ≡ L) (i : length (k 
       inverse-bit L (k .inverse) i (butterflyOf L (k .butterfly) x) p (butterfly-lt L (k .butterfly) h) l
       ∙ butterfly-bit L (k .butterfly) b x q h (omega (arith, o, inverse-from L (k .inverse) i p))
 
-  through-lt : (x : ℕ) → x < 2 ^ 2 ^ L → through x < 2 ^ 2 ^ L
+  through-lt : (x : ℕ) → x < 2 ^ 2 ^ L → throughBoth L k x < 2 ^ 2 ^ L
   through-lt x h = inverse-lt L (k .inverse) (butterfly-lt L (k .butterfly) h)
 
   pub brings-realises : (entries : List ℕ) → length entries ≡ 2 ^ L → Brings L (fromWords L k) (entry entries) → Realises L k entries
-  brings-realises entries long g = words-permuted L entries long through (place.network L (fromWords L k)) through-bit through-lt g
+  brings-realises entries long g = words-permuted L entries long (throughBoth L k) (place.network L (fromWords L k)) through-bit through-lt g
 
   pub realises-brings : (entries : List ℕ) → length entries ≡ 2 ^ L → ((p : ℕ) → p < 2 ^ L → entry entries p < 2 ^ L)
       → Realises L k entries → Brings L (fromWords L k) (entry entries)
-  realises-brings entries long small g = places-permuted L entries long through (place.network L (fromWords L k)) through-bit through-lt small g
+  realises-brings entries long small g = places-permuted L entries long (throughBoth L k) (place.network L (fromWords L k)) through-bit through-lt small g

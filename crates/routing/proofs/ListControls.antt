@@ -14,9 +14,10 @@ use Rattle.routing.specs.Lists.{find, entry, ListPermutes, controlsOf}
 use Rattle.routing.proofs.Finite.{Collision, pigeonhole}
 use Rattle.routing.proofs.FirstControls.{first-controls}
 
-record Found (x : ℕ) (l : List ℕ) : Type 0 where
-  small : find x l < length l
-  holds : getD l (find x l) 0 ≡ x
+-- x is found where it stands
+pub record Found (x : ℕ) (l : List ℕ) : Type 0 where
+  pub small : find x l < length l
+  pub holds : getD l (find x l) 0 ≡ x
 
 find-here : (x y : ℕ) (ys : List ℕ) → eqb x y ≡ true → find x (y ∷ ys) ≡ 0
 unfolding find
@@ -29,7 +30,7 @@ find-there x y ys t = ap (λ (b : Bool). cond b 0 (suc (find x ys))) t
 found-at : (x : ℕ) (l : List ℕ) (i : ℕ) → find x l ≡ i → i < length l → getD l i 0 ≡ x → Found x l
 found-at x l i q h e = record { small = omega arith; holds = ap (λ (j : ℕ). getD l j 0) q ∙ e }
 
-find-found : (x : ℕ) (l : List ℕ) (p : ℕ) → p < length l → getD l p 0 ≡ x → Found x l
+pub find-found : (x : ℕ) (l : List ℕ) (p : ℕ) → p < length l → getD l p 0 ≡ x → Found x l
 find-found x [] p h e = absurd (omega arith)
 find-found x (y ∷ ys) p h e = go (eqb x y) refl p h e (find-found x ys)
   where

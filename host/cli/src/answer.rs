@@ -1,27 +1,44 @@
 //! What a command line is answered with.
 
-use crate::failure::Failure;
+use crate::failure::{Failure, STATUSES};
 use std::fs;
 use std::io::{self, ErrorKind, Write};
+use std::process::ExitCode;
 
-/// What a command writes.
+/// What a command writes, and how it ends then.
 pub struct Answer {
     /// To the standard output.
     pub output: String,
     /// To the file of this name.
     pub file: Option<(String, String)>,
+    /// The exit status once all is written, one of [`STATUSES`].
+    pub status: u8,
 }
 
 impl Answer {
     /// Output alone.
     pub fn of(output: String) -> Self {
         let file = None;
-        Answer { output, file }
+        let (status, _) = STATUSES[0];
+        Answer {
+            output,
+            file,
+            status,
+        }
     }
 
-    /// Writes the file, then the output. A reader that has seen enough of the
-    /// output may close it.
-    pub fn deliver(self) -> Result<(), Failure> {
+    /// Output on controls that do not move every word alike.
+    pub fn unalike(output: String) -> Self {
+        let (status, _) = STATUSES[4];
+        Answer {
+            status,
+            ..Answer::of(output)
+        }
+    }
+
+    /// Writes the file, then the output, and answers the exit status. A reader
+    /// that has seen enough of the output may close it.
+    pub fn deliver(self) -> Result<ExitCode, Failure> {
         if let Some((name, contents)) = self.file {
             let unwritten = |error| Failure::Unwritten(format!("{name:?}"), error);
             fs::write(&name, contents).map_err(unwritten)?;
@@ -34,7 +51,7 @@ impl Answer {
             Err(error) if error.kind() != ErrorKind::BrokenPipe => {
                 Err(Failure::Unwritten("the standard output".to_string(), error))
             }
-            _ => Ok(()),
+            _ => Ok(self.status.into()),
         }
     }
 }

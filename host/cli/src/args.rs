@@ -150,6 +150,11 @@ fn value_of(
 }
 
 impl<'a> Text<'a> {
+    /// A part of another, with a name of its own.
+    pub fn part(name: &'a str, text: &'a str) -> Self {
+        Text { name, text }
+    }
+
     /// The name that it was given by.
     pub fn name(&self) -> &'a str {
         self.name

@@ -1,5 +1,6 @@
 //! The commands.
 
+mod compare;
 mod drawn;
 mod masks;
 mod networks;
@@ -15,7 +16,7 @@ use crate::command::Command;
 use crate::failure::Failure;
 
 /// All of them, in the order of the help.
-pub const COMMANDS: [&Command; 19] = [
+pub const COMMANDS: [&Command; 20] = [
     &masks::GATHER,
     &masks::SCATTER,
     &masks::GROUP,
@@ -23,6 +24,7 @@ pub const COMMANDS: [&Command; 19] = [
     &networks::BUTTERFLY,
     &networks::INVERSE,
     &routing::ROUTE,
+    &compare::COMPARE,
     &packing::PACK,
     &packing::UNPACK,
     &planes::PLANES,

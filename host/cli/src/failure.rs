@@ -15,14 +15,15 @@ pub enum Failure {
         /// The command whose help tells more; none if it is not known.
         command: Option<&'static str>,
     },
-    /// The library refused the call.
-    Refused(Refusal),
+    /// The library refused the call, for this part of the arguments if one is
+    /// named.
+    Refused(Refusal, Option<String>),
     /// What is named here could not be written.
     Unwritten(String, io::Error),
 }
 
 /// The exit statuses and what they mean; the first is success.
-pub const STATUSES: [(u8, &str); 4] = [
+pub const STATUSES: [(u8, &str); 5] = [
     (0, "the call was carried out"),
     (
         1,
@@ -30,6 +31,7 @@ pub const STATUSES: [(u8, &str); 4] = [
     ),
     (2, "the library refused the call"),
     (3, "the answer could not be written"),
+    (4, "the compared controls do not move every word alike"),
 ];
 
 /// The condition of each refusal, by rising number, in the words of
@@ -82,7 +84,7 @@ impl Failure {
     pub fn status(&self) -> ExitCode {
         let (status, _) = match self {
             Failure::Argument { .. } => STATUSES[1],
-            Failure::Refused(_) => STATUSES[2],
+            Failure::Refused(..) => STATUSES[2],
             Failure::Unwritten(..) => STATUSES[3],
         };
         status.into()
@@ -91,7 +93,7 @@ impl Failure {
 
 impl From<Refusal> for Failure {
     fn from(refusal: Refusal) -> Self {
-        Failure::Refused(refusal)
+        Failure::Refused(refusal, None)
     }
 }
 
@@ -102,9 +104,10 @@ impl fmt::Display for Failure {
                 let of = command.map(|name| format!(" {name}")).unwrap_or_default();
                 write!(f, "tigbayon{of}: {problem}\nsee tigbayon{of} --help")
             }
-            Failure::Refused(refusal) => {
-                let number = refusal.number();
-                write!(f, "refused {number}: {}", condition(*refusal))
+            Failure::Refused(refusal, part) => {
+                let (number, condition) = (refusal.number(), condition(*refusal));
+                write!(f, "refused {number}: {condition}")?;
+                part.iter().try_for_each(|part| write!(f, " ({part})"))
             }
             Failure::Unwritten(what, error) => write!(f, "cannot write {what}: {error}"),
         }

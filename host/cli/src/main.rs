@@ -32,7 +32,7 @@ const VERSION: &str = "--version";
 fn main() -> ExitCode {
     let outcome = read(env::args_os().skip(1)).and_then(|args| answer(&args));
     match outcome.and_then(Answer::deliver) {
-        Ok(()) => ExitCode::SUCCESS,
+        Ok(status) => status,
         Err(failure) => {
             // If this cannot be written either, the exit status still tells.
             let _ = writeln!(io::stderr(), "{failure}");

@@ -75,6 +75,46 @@ fn lists() {
 }
 
 #[test]
+fn sets_of_controls() {
+    assert_unread(&["compare", "8"], "FIRST is missing");
+    assert_unread(&["compare", "8", "0/0"], "SECOND is missing");
+    let args = ["compare", "8", "0/0", "0/0", "0/0"];
+    assert_unread(&args, "\"0/0\" is one too many");
+    let args = ["compare", "8", "0", "0", "--inverse", "--butterfly"];
+    assert_unread(&args, "--butterfly and --inverse exclude each other");
+    for text in ["", "0", "0,0,0", "0/0/0", "//"] {
+        let expected = "expected STAGES/STAGES where neither --butterfly nor --inverse is given";
+        let first = format!("FIRST is {text:?}, {expected}");
+        assert_unread(&["compare", "8", text, "0/0"], &first);
+        let second = format!("SECOND is {text:?}, {expected}");
+        assert_unread(&["compare", "8", "0/0", text], &second);
+    }
+    for (option, name) in [("--butterfly", "butterfly"), ("--inverse", "inverse")] {
+        for text in ["/", "0/0", "0/0/0"] {
+            let expected = format!("expected STAGES of the {name} without a slash");
+            let first = format!("FIRST is {text:?}, {expected}");
+            assert_unread(&["compare", "8", text, "0", option], &first);
+            let second = format!("SECOND is {text:?}, {expected}");
+            assert_unread(&["compare", "8", "0", text, option], &second);
+        }
+    }
+}
+
+/// Also where the other set, or the width, would be refused.
+#[test]
+fn stages_of_sets() {
+    let hexadecimal = "expected a hexadecimal number up to 0xFFFFFFFF";
+    let entry = format!("entry 1 of SECOND is \"x\", {hexadecimal}");
+    assert_unread(&["compare", "12", "10", "0,x", "--inverse"], &entry);
+    let entry = format!("entry 0 of FIRST, inverse is \"100000000\", {hexadecimal}");
+    assert_unread(&["compare", "8", "0/100000000", "10/0"], &entry);
+    let most = "FIRST is \"0,0,0,0,0,0,0\", expected at most 6 stages";
+    assert_unread(&["compare", "8", "0,0,0,0,0,0,0", "0", "--butterfly"], most);
+    let most = "SECOND, butterfly is \"0,0,0,0,0,0,0\", expected at most 6 stages";
+    assert_unread(&["compare", "8", "0/0", "0,0,0,0,0,0,0/0"], most);
+}
+
+#[test]
 fn eight_words() {
     for (command, name) in [("planes", "WORDS.."), ("bytes", "PLANES..")] {
         assert_unread(&[command], &format!("{name} is missing"));

@@ -46,8 +46,12 @@ fn every_example_prints_what_is_shown() {
             let args = Vec::from_iter(call.split(' '));
             let done = outcome(command(&args).current_dir(&folder));
             assert_eq!(done.output + &done.error, printed, "{call}");
-            let refused = printed.starts_with("refused ");
-            assert_eq!(done.status, if refused { 2 } else { 0 }, "{call}");
+            let status = match printed.split(['\n', ' ']).next() {
+                Some("refused") => 2,
+                Some("not") => 4,
+                _ => 0,
+            };
+            assert_eq!(done.status, status, "{call}");
             count += 1;
         }
     }
@@ -82,8 +86,8 @@ fn the_version() {
 #[test]
 fn all_commands_are_listed() {
     let expected = "\
-        gather scatter group decode butterfly inverse route pack unpack planes bytes tile \
-        check excheck mix-left mix-right exchange despeckle run";
+        gather scatter group decode butterfly inverse route compare pack unpack planes bytes \
+        tile check excheck mix-left mix-right exchange despeckle run";
     assert_eq!(names().join(" "), expected);
     let listed = expected.replace(' ', ", ");
     assert!(run(&["turn"]).error.contains(&listed));
@@ -92,7 +96,7 @@ fn all_commands_are_listed() {
 #[test]
 fn exit_statuses_and_refusals_are_listed() {
     let overall = prints(&["--help"]);
-    for status in 0..=3 {
+    for status in 0..=4 {
         assert!(overall.contains(&format!("\n  {status}  ")), "{status}");
     }
     for refusal in Refusal::ALL {

@@ -8,6 +8,8 @@ use support::{command, folder, list, outcome, prints, run};
 
 const SWAPPED: [&str; 3] = ["route", "8", "0,4,2,3,1,5,6,7"];
 
+const UNALIKE: [&str; 5] = ["compare", "8", "0xF", "0xE", "--inverse"];
+
 #[test]
 fn svg_goes_to_a_file_or_to_the_output() {
     let file = folder("output").join("route.svg");
@@ -47,20 +49,27 @@ fn a_file_that_cannot_be_written() {
 #[test]
 fn a_closed_output() {
     let permutation: Vec<u8> = (0..64).rev().collect();
-    let mut command = command(&["route", "64", &list(&permutation), "--svg", "-"]);
-    let child = command.stdout(Stdio::piped()).stderr(Stdio::piped());
-    let mut child = child.spawn().unwrap();
-    drop(child.stdout.take());
-    let done = child.wait_with_output().unwrap();
-    assert_eq!(done.status.code(), Some(0));
-    assert!(done.stderr.is_empty());
+    for (args, status) in [
+        (["route", "64", &list(&permutation), "--svg", "-"], 0),
+        (UNALIKE, 4),
+    ] {
+        let mut command = command(&args);
+        let child = command.stdout(Stdio::piped()).stderr(Stdio::piped());
+        let mut child = child.spawn().unwrap();
+        drop(child.stdout.take());
+        let done = child.wait_with_output().unwrap();
+        assert_eq!(done.status.code(), Some(status));
+        assert!(done.stderr.is_empty());
+    }
 }
 
 #[cfg(target_os = "linux")]
 #[test]
 fn a_full_output() {
-    let full = fs::File::options().write(true).open("/dev/full").unwrap();
-    let done = outcome(command(&SWAPPED).stdout(full));
-    assert_eq!(done.status, 3);
-    assert!(done.error.starts_with("cannot write the standard output: "));
+    for args in [&SWAPPED[..], &UNALIKE] {
+        let full = fs::File::options().write(true).open("/dev/full").unwrap();
+        let done = outcome(command(args).stdout(full));
+        assert_eq!(done.status, 3);
+        assert!(done.error.starts_with("cannot write the standard output: "));
+    }
 }

@@ -26,7 +26,13 @@ fn by_width() {
         }
         assert_refused(&["decode", width, "1"], Refusal::Width);
         assert_refused(&["route", width, "0,1,2"], Refusal::Width);
+        assert_refused(&["compare", width, "1/1", "10/1"], Refusal::Width);
+        for network in ["--butterfly", "--inverse"] {
+            assert_refused(&["compare", width, "1", "10", network], Refusal::Width);
+        }
     }
+    let said = "refused 1: width not 8, 16, 32, 64\n";
+    assert_eq!(run(&["compare", "12", "1/1", "10/1"]).error, said);
 }
 
 #[test]
@@ -48,6 +54,46 @@ fn by_an_unused_control() {
         assert_refused(&[call, "8", "0,0,0,1", "1"], Refusal::Unused);
         assert_refused(&[call, "32", "0,0,0,0,0,1", "1"], Refusal::Unused);
     }
+}
+
+/// It is said which set has it, and of both networks which one.
+#[test]
+fn by_an_unused_control_of_a_set() {
+    let assert_named = |args: &[&str], part: &str| {
+        assert_refused(args, Refusal::Unused);
+        let said = format!("refused 3: a one in an unused control bit or stage ({part})\n");
+        assert_eq!(run(args).error, said, "{args:?}");
+    };
+    for (width, unused) in [
+        ("8", "0x10"),
+        ("8", "0,0,80000000"),
+        ("8", "0,0,0,1"),
+        ("16", "0,0,0,100"),
+        ("16", "0,0,0,0,1"),
+        ("32", "10000"),
+        ("32", "0,0,0,0,0,1"),
+    ] {
+        for network in ["--butterfly", "--inverse"] {
+            assert_named(&["compare", width, unused, "0", network], "FIRST");
+            assert_named(&["compare", width, "0", unused, network], "SECOND");
+            assert_named(&["compare", width, unused, unused, network], "FIRST");
+        }
+        let [butterfly, inverse] = [format!("{unused}/0"), format!("0/{unused}")];
+        let both = format!("{unused}/{unused}");
+        for (first, second, part) in [
+            (butterfly.as_str(), "0/0", "FIRST, butterfly"),
+            (&inverse, "0/0", "FIRST, inverse"),
+            ("0/0", &butterfly, "SECOND, butterfly"),
+            ("0/0", &inverse, "SECOND, inverse"),
+            (&inverse, &butterfly, "FIRST, inverse"),
+            (&both, &both, "FIRST, butterfly"),
+        ] {
+            assert_named(&["compare", width, first, second], part);
+        }
+    }
+    let used = ["FFFFFFFF"; 6].join(",");
+    let args = ["compare", "64", &used, &used, "--inverse"];
+    assert_eq!(run(&args).status, 0);
 }
 
 #[test]

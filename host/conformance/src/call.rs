@@ -8,6 +8,7 @@ use model::prepared::Swaps;
 use model::refusal::Answer;
 use model::routing::Routed;
 use std::fmt::Debug;
+use std::iter::zip;
 use tigbayon::{PreparedButterfly, PreparedInverse, Refusal};
 use tigbayon::{TbCarried, TbControls1, TbControls2, TbGathered, TbPrepared};
 
@@ -309,6 +310,25 @@ pub fn decode(width: u32, mask: u64) -> Decoded {
 /// The checked controls of a permutation that must be accepted.
 pub fn route(width: u32, permutation: &[u8]) -> Routed {
     ROUTE.result(width, permutation, ())
+}
+
+/// The checked word that these networks make of this one in turn, each on its
+/// controls, which must be accepted.
+pub fn through(networks: &[Call<Controls>], width: u32, set: &[Controls], word: u64) -> u64 {
+    zip(networks, set).fold(word, |word, (network, &controls)| {
+        network.result(width, controls, word)
+    })
+}
+
+/// The bit that each place takes by them: every single bit is sent through.
+pub fn sources(networks: &[Call<Controls>], width: u32, set: &[Controls]) -> Vec<u8> {
+    let carried = (0..width).map(|bit| through(networks, width, set, 1 << bit));
+    let carried: Vec<u64> = carried.collect();
+    let source = |place: u32| {
+        let bit = carried.iter().position(|&word| word == 1 << place);
+        bit.expect("a bit for every place") as u8
+    };
+    (0..width).map(source).collect()
 }
 
 fn gathered(answer: TbGathered) -> Answer<Gathered> {

@@ -21,6 +21,15 @@ pub fn reversed(width: u32, mut controls: Controls) -> Controls {
     controls
 }
 
+/// Controls of both networks, with these switches of the stages where they meet the
+/// other way: the butterfly's last, and the inverse's first, which joins the same places.
+pub fn turned_inside(width: u32, set: [Controls; 2], last: u32, first: u32) -> [Controls; 2] {
+    let [mut butterfly, mut inverse] = set;
+    butterfly[stages(width) - 1] ^= last;
+    inverse[0] ^= first;
+    [butterfly, inverse]
+}
+
 /// All 4,096 controls of width 8.
 pub fn all_of_width_8() -> impl Iterator<Item = Controls> {
     let controls = |switches: u32| [switches & 0xF, switches >> 4 & 0xF, switches >> 8, 0, 0, 0];

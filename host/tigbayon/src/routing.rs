@@ -19,6 +19,9 @@ pub struct Routed {
 /// then through those of the inverse, each from switch 0 up; at the first
 /// switch where they differ from these, these pass and those swap.
 ///
+/// Different controls of both networks may move every word alike. To see whether
+/// two sets do, compare what this answers for the permutations that they realise.
+///
 /// # Errors
 ///
 /// [`Refusal::Width`], [`Refusal::Length`] and [`Refusal::Entry`].
@@ -47,7 +50,8 @@ pub fn route(width: u32, permutation: &[u8]) -> Result<Routed, Refusal> {
 }
 
 /// Finds the controls by which the butterfly alone permutes every word. There
-/// is at most one such set.
+/// is at most one such set: accepted controls that move every word alike are
+/// equal. So routing the permutation that controls realise gives them back.
 ///
 /// # Errors
 ///
@@ -65,12 +69,29 @@ pub fn route(width: u32, permutation: &[u8]) -> Result<Routed, Refusal> {
 /// assert_eq!(refused, Err(Refusal::NotRealised));
 /// # Ok::<(), tigbayon::Refusal>(())
 /// ```
+///
+/// From controls to the permutation, by single bits, and back:
+///
+/// ```
+/// use tigbayon::{butterfly, route_butterfly, Controls};
+///
+/// let controls = Controls::from([0x7, 0x1, 0x5, 0, 0, 0]);
+/// let mut permutation = [0; 8];
+/// for bit in 0..8 {
+///     let place = butterfly(8, &controls, 1 << bit)?.trailing_zeros();
+///     permutation[place as usize] = bit;
+/// }
+/// assert_eq!(route_butterfly(8, &permutation), Ok(controls));
+/// # Ok::<(), tigbayon::Refusal>(())
+/// ```
 pub fn route_butterfly(width: u32, permutation: &[u8]) -> Result<Controls, Refusal> {
     ffi::tb_route_butterfly(width, permutation).into()
 }
 
 /// Finds the controls by which the inverse butterfly alone permutes every
-/// word. There is at most one such set.
+/// word. There is at most one such set: accepted controls that move every word
+/// alike are equal. So routing the permutation that controls realise gives them
+/// back.
 ///
 /// # Errors
 ///

@@ -80,7 +80,10 @@ where
             (self.plain)()
         };
         let file = svg.map(|name| (name.to_string(), (self.svg)()));
-        Ok(Answer { output, file })
+        Ok(Answer {
+            file,
+            ..Answer::of(output)
+        })
     }
 }
 

@@ -2,7 +2,7 @@
 
 use super::{drawn, masks};
 use crate::answer::Answer;
-use crate::args::{unexpected, Given};
+use crate::args::{unexpected, Given, Text};
 use crate::command::{Argument, Command, Example, MASK, WIDTH};
 use crate::drawing::{Caption, Drawing};
 use crate::failure::Failure;
@@ -19,6 +19,9 @@ const STAGES: Argument = Argument {
 const ARGUMENTS: &[Argument] = &[WIDTH, STAGES, masks::WORD];
 
 const REFUSALS: &[Refusal] = &[Refusal::Width, Refusal::Above, Refusal::Unused];
+
+/// The call that sends a word through a network.
+pub type Carry = fn(u32, &Controls, u64) -> Result<u64, Refusal>;
 
 /// The butterfly.
 pub const BUTTERFLY: Command = Command {
@@ -107,26 +110,22 @@ controls   0x7   0x1   0x5       0x5   0x1   0x7
     perform: decode,
 };
 
-fn by_stages(
-    given: &Given,
-    call: fn(u32, &Controls, u64) -> Result<u64, Refusal>,
-) -> Result<Answer, Failure> {
+fn by_stages(given: &Given, call: Carry) -> Result<Answer, Failure> {
     let width = given.argument("WIDTH").number(Base::Decimal)?;
-    let controls = controls(given)?;
+    let controls = controls(&given.argument(STAGES.name))?;
     let word = given.argument("WORD").number(Base::Hexadecimal)?;
     let result = call(width, &controls, word)?;
     Ok(Answer::of(hex(result) + "\n"))
 }
 
 /// The stages that are given, then zeros.
-fn controls(given: &Given) -> Result<Controls, Failure> {
-    let text = given.argument("STAGES");
+pub fn controls(text: &Text<'_>) -> Result<Controls, Failure> {
     let stages: Vec<u32> = text.numbers(Base::Hexadecimal)?;
     let mut controls = Controls::default();
     let most = controls.stages.len();
     let Some(used) = controls.stages.get_mut(..stages.len()) else {
         let expected = format!("at most {most} stages");
-        return Err(unexpected("STAGES", text.text(), &expected));
+        return Err(unexpected(text.name(), text.text(), &expected));
     };
     used.copy_from_slice(&stages);
     Ok(controls)

@@ -10,7 +10,8 @@ use crate::network::{farthest, Network};
 use crate::number::{list, Base};
 use tigbayon::Refusal;
 
-const ALONE: [&str; 2] = ["--butterfly", "--inverse"];
+/// The options that name one network.
+pub const ALONE: [&str; 2] = ["--butterfly", "--inverse"];
 
 /// What first means, in the words of include/tigbayon.h.
 const FIRST: &str = "\
