@@ -7,9 +7,9 @@ use native.Mathlib.Omega.{arith}
 use native.Mathlib.Decide.{decLt}
 use native.Mathlib.Nat.{mod-lt, zero-add}
 use lib.Bits.{bitAnd, and-le-l, and-le-r}
-use lib.ListN.{length, getD, take, replicate, length-reverse, List·getD-append}
+use lib.ListN.{length, getD, take, replicate, length-append, length-replicate, length-reverse, List·getD-append}
 use lib.Pow.{pow-pos}
-use lib.Seq.{ext-getD, getD-append-add, length-take-le, getD-take}
+use lib.Seq.{ext-getD, getD-append-add, length-take-le, getD-take, take-at}
 use borrow.Author.Tests.{lt-ltb, le-ltb}
 use Rattle.bits.specs.Refusal.{logOf, accepted}
 use Rattle.bits.proofs.Refusals.{log-width, log-le}
@@ -36,7 +36,7 @@ getD-zeros (suc n) zero = refl
 getD-zeros (suc n) (suc i) = getD-zeros n i
 
 -- L stages of w/2 control bits each, padded to six, fit
-pub six-fit : (L : ℕ) (cs : List ℕ) → L ≤ 6 → Uses L cs → controlsFit L 0 (six cs) ≡ true
+six-fit : (L : ℕ) (cs : List ℕ) → L ≤ 6 → Uses L cs → controlsFit L 0 (six cs) ≡ true
 six-fit L cs l u = each-fit L 0 (six cs) (λ i h. rw zero-add (at i (decLt i L)))
   where
     at : (i : ℕ) → Dec (i < L) → getD (six cs) i 0 < 2 ^ usedBits L i
@@ -58,7 +58,7 @@ stages-fit L cs l g = (length-take-le L cs (omega arith), each)
     each i h = rw getD-take (rw (zero-add, lt-ltb i L h) at (fit-each L 0 cs g i (omega arith)))
 
 -- and these fix the others, which are zero
-pub stages-same : (L : ℕ) (cs ds : List ℕ) → length cs ≡ length ds → controlsFit L 0 cs ≡ true → controlsFit L 0 ds ≡ true
+stages-same : (L : ℕ) (cs ds : List ℕ) → length cs ≡ length ds → controlsFit L 0 cs ≡ true → controlsFit L 0 ds ≡ true
     → take L cs ≡ take L ds → cs ≡ ds
 stages-same L cs ds n f g t = ext-getD 0 cs ds n (λ i h. at i h (decLt i L))
   where
@@ -68,6 +68,15 @@ stages-same L cs ds n f g t = ext-getD 0 cs ds n (λ i h. at i h (decLt i L))
     at : (i : ℕ) → i < length cs → Dec (i < L) → getD cs i 0 ≡ getD ds i 0
     at i h (yes l) = sym (getD-take L cs i 0 l) ∙ ap (λ (es : List ℕ). getD es i 0) t ∙ getD-take L ds i 0 l
     at i h (no l) = unused cs f i h (omega arith) ∙ sym (unused ds g i (omega arith) (omega arith))
+
+-- so controls that fit are their stages in use, padded
+pub six-in-use : (L : ℕ) (cs : List ℕ) → L ≤ 6 → length cs ≡ 6 → controlsFit L 0 cs ≡ true → six (take L cs) ≡ cs
+six-in-use L cs l n f =
+    let ds = take L cs in
+    let zeros = replicate {A = ℕ} (6 - length ds) 0 in
+    let u = stages-fit L cs (omega arith) f in
+    let long : length (ds ++ zeros) ≡ length cs = omega (arith, length-append ds zeros, length-replicate {A = ℕ} (6 - length ds) 0, u .0) in
+    stages-same L (six ds) cs long (six-fit L ds l u) f (take-at ds zeros L (u .0))
 
 reverse-fits : (L : ℕ) (cs : List ℕ) → Uses L cs → Uses L (reverse cs)
 reverse-fits L cs f = (

@@ -3,10 +3,10 @@ use mathlib.Core.Path.{_≡_, refl, sym, _∙_, ap, subst}
 use mathlib.Core.Logic.{_↔_}
 use mathlib.Core.Bool.{Bool, true, false, not, cond}
 use mathlib.Core.List.{List, []}
-use Prim.Native.Nat.{ℕ, zero, suc, _-_, _^_, _<_}
+use Prim.Native.Nat.{ℕ, zero, suc, _^_, _<_}
 use native.Mathlib.Omega.{arith}
 use lib.Dec.{eqb}
-use lib.ListN.{length, take, drop, replicate, take-append-drop, length-append, length-replicate}
+use lib.ListN.{take, drop, take-append-drop}
 use lib.Pow.{pow-pos, pow-lt}
 use borrow.Author.Tests.{ne-eqb, lt-ltb}
 use Rattle.bits.specs.Refusal.{logOf, accepted}
@@ -16,12 +16,11 @@ use Rattle.network.specs.declared.Carried.{Carried}
 use Rattle.network.specs.Stage.{butterflyOf, inverseOf}
 use Rattle.network.specs.Calls.{Uses, controlsFit, networkRefusal, networkAnswer, six, controls}
 use Rattle.network.proofs.NetworkAnswers.{network-refusal-by, network-within, network-is}
-use Rattle.network.proofs.CallRouting.{OwnStages, butterfly-own, inverse-own, on-stages, six-fit, stages-fit, stages-same}
+use Rattle.network.proofs.CallRouting.{OwnStages, butterfly-own, inverse-own, on-stages, stages-fit, six-in-use}
 use Rattle.routing.specs.Lists.{ListPermutes, butterflyFits, inverseFits, butterflyAlone, inverseAlone}
 use Rattle.permute.specs.declared.RoutedOne.{RoutedOne}
 use Rattle.permute.specs.Calls.{routeRefusal, oneRefusal, oneAnswer, DecidesAlone}
 use Rattle.permute.specs.Alike.{Alike, sourcesOf, PermutesBits, callSources, Whole, Accepts, AloneUnique, CallsUnique, GivesBack}
-use Rattle.permute.proofs.FirstWords.{in-use}
 use Rattle.permute.proofs.Names.{names-permutes}
 use Rattle.permute.proofs.OneNetwork.{butterfly-alone, inverse-alone}
 use Rattle.permute.proofs.PermutationAnswers.{route-within, one-number, permutes-within}
@@ -69,6 +68,10 @@ record InUse (f : ℕ → List ℕ → ℕ → ℕ) (w : ℕ) (k : Controls) : T
 
 in-use-of : (f : ℕ → List ℕ → ℕ → ℕ) → OwnStages f → (w : ℕ) (k : Controls) → Whole k → Accepts f w k → InUse f w k
 in-use-of f own w k whole a =
+    let L = logOf w in
+    let cs = take L (k .stages) in
+    let fit = accepted-fit f w k a in
+    let u = stages-fit L (k .stages) (omega (arith, log-le w)) fit in
     record {
       width = log-width w (accepted-width f w k a) .0;
       stages = cs;
@@ -76,21 +79,8 @@ in-use-of f own w k whole a =
       send = λ x h. ap (λ (c : Carried). c .word) (accepted-answer f w k a x h)
           ∙ ap (λ (ds : List ℕ). f L ds x) (sym (take-append-drop L (k .stages)))
           ∙ own L cs (drop L (k .stages)) (u .0) x;
-      padded = ap (λ (ds : List ℕ). record { stages = ds })
-          (stages-same L (six cs) (k .stages) long (six-fit L cs (log-le w) u) (accepted-fit f w k a) (in-use L cs (u .0)));
+      padded = ap (λ (ds : List ℕ). record { stages = ds }) (six-in-use L (k .stages) (log-le w) whole fit);
     }
-  where
-    L : ℕ
-    L = logOf w
-
-    cs : List ℕ
-    cs = take L (k .stages)
-
-    u : Uses L cs
-    u = stages-fit L (k .stages) (omega (arith, log-le w)) (accepted-fit f w k a)
-
-    long : length (six cs) ≡ length (k .stages)
-    long = omega (arith, length-append cs (replicate (6 - length cs) 0), length-replicate {A = ℕ} (6 - length cs) 0, u .0, log-le w)
 
 -- of network f, whose calls on one network alone decide by `fits` and `alone`
 module _ {f : ℕ → List ℕ → ℕ → ℕ} {fits : ℕ → List ℕ → Bool} {alone : ℕ → List ℕ → List ℕ} (d : DecidesAlone f fits alone) (own : OwnStages f)
