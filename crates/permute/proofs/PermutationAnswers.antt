@@ -1,7 +1,6 @@
 -- The refusals of the calls on permutations: by the tests that the code makes, lowest first (demand 1), and what a call that is carried out is on.
 -- Assumes nothing.
 use mathlib.Core.Path.{_≡_, refl, sym, _∙_, ap}
-use mathlib.Core.Logic.{inl, inr}
 use mathlib.Core.Bool.{Bool, true, not, cond}
 use mathlib.Core.List.{List, [], _∷_}
 use Prim.Native.Nat.{ℕ, _^_, _≤_}
@@ -9,8 +8,8 @@ use native.Mathlib.Omega.{arith}
 use lib.Dec.{eqb}
 use lib.ListN.{length}
 use borrow.Author.Tests.{eqb-true, eq-eqb, not-false}
-use Rattle.bits.specs.Refusal.{logOf, accepted, lowest, IsLowest, AnswersLowest}
-use Rattle.bits.proofs.Refusals.{log-width, log-le, lowest-law, lowest-more, answers-lowest, none-applies}
+use Rattle.bits.specs.Refusal.{logOf, accepted, lowest, AnswersLowest}
+use Rattle.bits.proofs.Refusals.{log-width, log-le, lowest-more, answers-lowest, every-answer, none-applies}
 use Rattle.network.specs.Calls.{controls}
 use Rattle.routing.specs.Lists.{ListPermutes, firstWords}
 use Rattle.permute.specs.declared.Routed.{Routed}
@@ -18,13 +17,6 @@ use Rattle.permute.specs.declared.RoutedOne.{RoutedOne}
 use Rattle.permute.specs.Permutation.{namesOnce}
 use Rattle.permute.specs.Calls.{routeConditions, routeRefusal, routeAnswer, oneConditions, oneRefusal, oneAnswer}
 use Rattle.permute.proofs.Names.{names-permutes, permutes-names}
-
--- demand 1 leaves one number
-lowest-only : (cs : List (ℕ × Bool)) (r s : ℕ) → IsLowest cs r → IsLowest cs s → r ≡ s
-lowest-only cs r s (inl a) (inl b) = a .0 ∙ sym (b .0)
-lowest-only cs r s (inl a) (inr b) = absurd (a .1 s (b .0))
-lowest-only cs r s (inr a) (inl b) = absurd (b .1 r (a .0))
-lowest-only cs r s (inr a) (inr b) = omega (arith, a .1 s (b .0), b .1 r (a .0))
 
 module _ (w : ℕ) (es : List ℕ) where
   -- the refusal, from the outcomes of the three tests: an accepted width, its length, every bit named once
@@ -61,8 +53,10 @@ module _ (w : ℕ) (es : List ℕ) where
       (record { refusal = 0; butterfly = controls (k .butterfly); inverse = controls (k .inverse) }) refl (λ n. refl)
 
   pub route-number : routeAnswer w es .refusal ≡ routeRefusal w es
-  unfolding routeRefusal
-  route-number = lowest-only (routeConditions w es) (routeAnswer w es .refusal) _ (route-lowest .least) (lowest-law (routeConditions w es) (omega arith))
+  unfolding routeAnswer
+  route-number =
+      every-answer (λ (a : Routed). a .refusal ≡ routeRefusal w es) (routeRefusal w es)
+      (λ n. record { refusal = n; butterfly = controls []; inverse = controls [] }) _ (λ z. refl) sym
 
   -- one network alone
   module _ (fits : ℕ → List ℕ → Bool) where
@@ -80,6 +74,7 @@ module _ (w : ℕ) (es : List ℕ) where
           (record { refusal = 0; controls = controls (alone (logOf w) es) }) refl (λ n. refl)
 
       pub one-number : oneAnswer fits alone w es .refusal ≡ oneRefusal fits w es
-      unfolding oneRefusal
+      unfolding oneAnswer
       one-number =
-          lowest-only (oneConditions fits w es) (oneAnswer fits alone w es .refusal) _ (alone-lowest .least) (lowest-law (oneConditions fits w es) (omega arith))
+          every-answer (λ (a : RoutedOne). a .refusal ≡ oneRefusal fits w es) (oneRefusal fits w es) (λ n. record { refusal = n; controls = controls [] }) _
+          (λ z. refl) sym
