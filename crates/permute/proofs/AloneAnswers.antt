@@ -52,16 +52,19 @@ module _ (w : ℕ) (es : List ℕ) (fits : ℕ → List ℕ → Bool) (alone : �
       let n = none-applies (oneConditions fits w es) (omega arith) z in
       (route-refusal-by w es (not-false _ (n .0)) (not-false _ (n .1 .0)) (not-false _ (n .1 .1 .0)), not-false _ (n .1 .1 .1 .0))
 
+  pub one-carried : oneRefusal fits w es ≡ 0 → oneAnswer fits alone w es ≡ record { refusal = 0; controls = controls (alone (logOf w) es) }
+  unfolding oneAnswer
+  one-carried z = rw z
+
   module _ {f : ℕ → List ℕ → ℕ → ℕ} (d : DecidesAlone f fits alone) where
     permutes : routeRefusal w es ≡ 0 → ListPermutes (2 ^ logOf w) es
     permutes z = route-permutes w es refl z refl .1
 
     found : oneRefusal fits w es ≡ 0 → ControlsAlone f L (take L (oneAnswer fits alone w es .controls .stages)) es
-    unfolding oneAnswer
     found z =
         let i = one-within z in
         let c = d .found L es (permutes (i .0)) (i .1) in
-        rw (z, in-use L (alone L es) (c .0 .0)) c
+        rw (one-carried z, in-use L (alone L es) (c .0 .0)) c
 
     none : oneRefusal fits w es ≡ 6 → (cs : List ℕ) → ControlsAlone f L cs es → ⊥
     none z cs c =

@@ -19,12 +19,12 @@ use Rattle.network.proofs.NetworkAnswers.{network-refusal-by, network-within, n
 use Rattle.network.proofs.CallRouting.{OwnStages, butterfly-own, inverse-own, on-stages, stages-fit, six-in-use}
 use Rattle.routing.specs.Lists.{ListPermutes, butterflyFits, inverseFits, butterflyAlone, inverseAlone}
 use Rattle.permute.specs.declared.RoutedOne.{RoutedOne}
-use Rattle.permute.specs.Calls.{routeRefusal, oneRefusal, oneAnswer, DecidesAlone}
+use Rattle.permute.specs.Calls.{routeRefusal, oneAnswer, DecidesAlone}
 use Rattle.permute.specs.Alike.{Alike, sourcesOf, PermutesBits, callSources, Whole, Accepts, AloneUnique, CallsUnique, GivesBack}
 use Rattle.permute.proofs.Names.{names-permutes}
 use Rattle.permute.proofs.OneNetwork.{butterfly-alone, inverse-alone}
 use Rattle.permute.proofs.PermutationAnswers.{route-within, permutes-within, one-refusal, one-number}
-use Rattle.permute.proofs.AloneAnswers.{one-within}
+use Rattle.permute.proofs.AloneAnswers.{one-within, one-carried}
 use Rattle.permute.proofs.Realising.{sources-are, sources-same, butterfly-permutes, inverse-permutes}
 
 network-number : (f : ℕ → List ℕ → ℕ → ℕ) (w : ℕ) (k : Controls) (x : ℕ) → networkAnswer f w k x .refusal ≡ networkRefusal w (k .stages) x
@@ -60,16 +60,12 @@ module _ (f : ℕ → List ℕ → ℕ → ℕ) (w : ℕ) (k : Controls) (a : Ac
 module _ {f : ℕ → List ℕ → ℕ → ℕ} {fits : ℕ → List ℕ → Bool} {alone : ℕ → List ℕ → List ℕ} (d : DecidesAlone f fits alone) (own : OwnStages f)
     (permutes : (L : ℕ) (cs : List ℕ) → PermutesBits (2 ^ L) (f L cs))
   where
+    -- controls are those that `alone` gives for the permutation that they realise
     fixed : (L : ℕ) (cs : List ℕ) → Uses L cs → let es = sourcesOf (2 ^ L) (f L cs) in (fits L es ≡ true) × (cs ≡ alone L es)
     fixed L cs u = let p = permutes L cs in d .exactly L (sourcesOf (2 ^ L) (f L cs)) (p .permutation) cs (u, p .realised)
 
     unique : AloneUnique f
     unique L cs ds u v a = fixed L cs u .1 ∙ ap (alone L) (sources-same (2 ^ L) (f L cs) (f L ds) a) ∙ sym (fixed L ds v .1)
-
-    one-carried : (w : ℕ) (es : List ℕ) → oneRefusal fits w es ≡ 0
-        → oneAnswer fits alone w es ≡ record { refusal = 0; controls = controls (alone (logOf w) es) }
-    unfolding oneAnswer
-    one-carried w es z = rw z
 
     -- accepted controls by their stages in use: these send the words, and are all that the controls hold
     module _ (w : ℕ) (k : Controls) (whole : Whole k) (a : Accepts f w k) where
@@ -115,9 +111,10 @@ module _ {f : ℕ → List ℕ → ℕ → ℕ} {fits : ℕ → List ℕ → Boo
           let stages : six (alone L es) ≡ k .stages =
           ap six (ap (alone L) realised ∙ sym (r .1)) ∙ six-in-use L (k .stages) (log-le w) whole (accepted-fit f w k a)
           in
-          one-carried w es (one-refusal w es fits ∙ (λ i. cond (eqb (within i) 0) (cond (not (t i)) 6 0) (within i)))
+          one-carried w es fits alone (one-refusal w es fits ∙ (λ i. cond (eqb (within i) 0) (cond (not (t i)) 6 0) (within i)))
           ∙ ap (λ (cs : List ℕ). record { refusal = 0; controls = record { stages = cs } }) stages
 
+    -- so controls on which the network's call answers alike are equal
     unique-calls : CallsUnique f
     unique-calls w k l hk hl a e =
         ap (λ (o : RoutedOne). o .controls)
@@ -126,7 +123,7 @@ module _ {f : ℕ → List ℕ → ℕ → ℕ} {fits : ℕ → List ℕ → Boo
         (sources-same w (λ x. networkAnswer f w k x .word) (λ x. networkAnswer f w l x .word) (λ x h. ap (λ (c : Carried). c .word) (e x h)))
         ∙ controls-back w l hl (ap (λ (c : Carried). c .refusal) (sym (e 0 (pow-pos w))) ∙ a))
 
-    -- and what its answer realises
+    -- what the controls realise that the call on one network answers
     module _ (w : ℕ) (es : List ℕ) where
       permutation-back : oneAnswer fits alone w es .refusal ≡ 0 → callSources w (networkAnswer f w (oneAnswer fits alone w es .controls)) ≡ es
       permutation-back r =
@@ -137,7 +134,7 @@ module _ {f : ℕ → List ℕ → ℕ → ℕ} {fits : ℕ → List ℕ → Boo
           let width = log-width w (j .0) .0 in
           let s : 2 ^ w ≡ 2 ^ 2 ^ logOf w = ap (λ (v : ℕ). 2 ^ v) width in
           let c = d .found (logOf w) es (rw width at p) (i .1) in
-          ap (λ (o : RoutedOne). callSources w (networkAnswer f w (o .controls))) (one-carried w es z)
+          ap (λ (o : RoutedOne). callSources w (networkAnswer f w (o .controls))) (one-carried w es fits alone z)
           ∙ sources-are w (λ x. networkAnswer f w (controls (alone (logOf w) es)) x .word) es (p .long) (p .small)
           (λ b l. let h : 2 ^ b < 2 ^ w = pow-lt l in
           ap (λ (o : Carried). o .word) (on-stages f own w (alone (logOf w) es) (2 ^ b) (j .0) h (c .0)) ∙ c .1 (2 ^ b) (omega (arith, s)))
