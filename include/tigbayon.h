@@ -32,7 +32,7 @@
 
 /* The version of this header, and of the archive that it belongs to. */
 #define TB_VERSION_MAJOR 0
-#define TB_VERSION_MINOR 8
+#define TB_VERSION_MINOR 9
 #define TB_VERSION_PATCH 0
 
 #ifdef __cplusplus
@@ -235,6 +235,25 @@ TbControls1 tb_route_butterfly(uint32_t width, const uint8_t *permutation, size_
  * TB_REFUSAL_NOT_REALISED.
  */
 TbControls1 tb_route_inverse(uint32_t width, const uint8_t *permutation, size_t length);
+
+/* The answer of tb_route_groups. */
+typedef struct {
+    uint8_t refusal;   /* an enum TbRefusal */
+    uint64_t masks[6]; /* for tb_group, step by step; zeros if the call is refused */
+} TbMasks;
+
+/*
+ * Route by groups: the masks by which tb_group, in L steps at width w = 2^L, brings
+ * every bit of every word to its place. Step i, from 0, groups by masks[i] the word
+ * that the step before answered. No step is refused, and the last one answers the
+ * permuted word: place p of it has the bit of the first word that entry p names.
+ *
+ * The mask of step i marks each bit whose present content, after the steps before,
+ * must end at a place with bit i zero. So each marks w/2 bits, for the identity too.
+ * masks[L] to masks[5] are zero; grouping by them leaves a word as it is.
+ * Refusals: TB_REFUSAL_WIDTH, TB_REFUSAL_LENGTH, TB_REFUSAL_ENTRY.
+ */
+TbMasks tb_route_groups(uint32_t width, const uint8_t *permutation, size_t length);
 
 /*
  * Packing, at width 64, from one list of words into another, each of at most

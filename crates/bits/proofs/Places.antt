@@ -5,12 +5,12 @@ use mathlib.Core.Bool.{Bool, cond}
 use mathlib.Core.List.{List, [], _∷_, _++_, append-nil}
 use Prim.Native.Nat.{ℕ, zero, suc, _+_, _-_, _*_, _/_, _%_, _^_, _<_, _≤_, min}
 use native.Mathlib.Omega.{arith}
-use native.Mathlib.Decide.{decLt}
+use native.Mathlib.Decide.{decLt, ℕ-discrete}
 use native.Mathlib.Nat.{not-suc-le-zero, pow-suc, pow-succ', div-one, div-div-eq-div-mul, mod-eq-of-lt, mul-le-mul-right, add-zero, zero-add, zero-mul, zero-min}
 use lib.Dec.{eqb}
 use borrow.Author.Tests.{eq-eqb, ne-eqb}
 use lib.ListN.{length, getD, length-append, List·getD-append}
-use lib.Seq.{getD-append-seam}
+use lib.Seq.{getD-append-seam, getD-at}
 use Rattle.bits.specs.Bit.{bit, rank, ofBits, places, marked, unmarked, pick, put}
 use Rattle.bits.proofs.Word.{bit-lt, bit-cases, bit-zero, bit-shr, bit-mod-two, bit-ofBits, bit-not, bit-above, bit-cat-low, bit-cat-high, ofBits-lt}
 use Rattle.bits.proofs.Rank.{rank-lt}
@@ -25,6 +25,74 @@ module _ (v m w : ℕ) where
   pub places-out : (bit m w ≡ v → ⊥) → places v m (suc w) ≡ places v m w
   unfolding places
   places-out e = ap (λ (b : Bool). places v m w ++ cond b (w ∷ []) []) (ne-eqb (bit m w) v e) ∙ append-nil (places v m w)
+
+-- what holds of each entry and of one more holds of the longer list
+pub snoc-at : (Q : ℕ → ℕ → Type 0) (ps : List ℕ) (w : ℕ) → ((j : ℕ) → j < length ps → Q j (getD ps j 0)) → Q (length ps) w
+    → (j : ℕ) → j < length (ps ++ (w ∷ [])) → Q j (getD (ps ++ (w ∷ [])) j 0)
+snoc-at Q ps w each last j h = by-cases (decLt j (length ps))
+  where
+    by-cases : Dec (j < length ps) → Q j (getD (ps ++ (w ∷ [])) j 0)
+    by-cases (yes l) = rw (List·getD-append ps (w ∷ []) 0 j l) (each j l)
+    by-cases (no n) =
+        let q : length ps ≡ j = omega (arith, length-append ps (w ∷ [])) in
+        rw (getD-at ps w [] 0 j q) (rw q at last)
+
+module _ (v m : ℕ) where
+  -- places below w that have the bit v, in rising order
+  pub record Rise (w : ℕ) (ps : List ℕ) : Type 0 where
+    pub below : (j : ℕ) → j < length ps → getD ps j 0 < w
+    pub has : (j : ℕ) → j < length ps → bit m (getD ps j 0) ≡ v
+    pub rise : (i j : ℕ) → i < j → j < length ps → getD ps i 0 < getD ps j 0
+
+  rise-more : (w : ℕ) (ps : List ℕ) → bit m w ≡ v → Rise w ps → Rise (suc w) (ps ++ (w ∷ []))
+  rise-more w ps e r =
+      record {
+        below = snoc-at (λ j x. x < suc w) ps w (λ j l. omega (arith, r .below j l)) (omega arith);
+        has = snoc-at (λ j x. bit m x ≡ v) ps w (r .has) e;
+        rise = λ i j l h.
+            snoc-at (λ j x. i < j → getD (ps ++ (w ∷ [])) i 0 < x) ps w
+            (λ j h k. rw (List·getD-append ps (w ∷ []) 0 i (omega arith)) (r .rise i j k h))
+            (λ k. rw (List·getD-append ps (w ∷ []) 0 i k) (r .below i k)) j h l;
+      }
+
+  pub places-rise : (w : ℕ) → Rise w (places v m w)
+  unfolding places
+  places-rise zero = record { below = λ j h. absurd (not-suc-le-zero h); has = λ j h. absurd (not-suc-le-zero h); rise = λ i j l h. absurd (not-suc-le-zero h) }
+  places-rise (suc w) = by-cases (ℕ-discrete (bit m w) v) (places-rise w)
+    where
+      by-cases : Dec (bit m w ≡ v) → Rise w (places v m w) → Rise (suc w) (places v m (suc w))
+      by-cases (yes e) r = rw (places-in v m w e) (rise-more w (places v m w) e r)
+      by-cases (no n) r =
+          rw (places-out v m w n) (record { below = λ j h. omega (arith, r .below j h); has = r .has; rise = r .rise })
+
+  -- the list grows, at each place that has the bit
+  pub places-grow : (p w : ℕ) → p ≤ w → length (places v m p) ≤ length (places v m w)
+  places-grow p zero h = let e : p ≡ zero = omega arith in rw e (omega arith)
+  places-grow p (suc w) h = by-cases (decLt w p) (ℕ-discrete (bit m w) v) (places-grow p w)
+    where
+      by-cases : Dec (w < p) → Dec (bit m w ≡ v) → (p ≤ w → length (places v m p) ≤ length (places v m w))
+          → length (places v m p) ≤ length (places v m (suc w))
+      by-cases (yes l) c ih = let e : p ≡ suc w = omega arith in rw e (omega arith)
+      by-cases (no n) (yes e) ih = rw (places-in v m w e) (omega (arith, length-append (places v m w) (w ∷ []), ih (omega arith)))
+      by-cases (no n) (no d) ih = rw (places-out v m w d) (ih (omega arith))
+
+  pub places-before : (p w : ℕ) → p < w → bit m p ≡ v → length (places v m p) < length (places v m w)
+  places-before p w h b =
+      omega (arith, ap length (places-in v m p b), length-append (places v m p) (p ∷ []), places-grow (suc p) w h)
+
+-- each place is marked or unmarked
+pub places-all : (m w : ℕ) → length (marked m w) + length (unmarked m w) ≡ w
+unfolding places
+places-all m zero = refl
+places-all m (suc w) = by-cases (bit-cases m w) (places-all m w)
+  where
+    by-cases : (bit m w ≡ 0) ⊎ (bit m w ≡ 1) → length (marked m w) + length (unmarked m w) ≡ w
+        → length (marked m (suc w)) + length (unmarked m (suc w)) ≡ suc w
+    by-cases (inl e) ih = rw (places-out 1 m w (λ q. omega arith), places-in 0 m w e, length-append (unmarked m w) (w ∷ [])) (omega arith)
+    by-cases (inr e) ih = rw (places-in 1 m w e, places-out 0 m w (λ q. omega arith), length-append (marked m w) (w ∷ [])) (omega arith)
+
+pub length-all : (m w : ℕ) → length (marked m w ++ unmarked m w) ≡ w
+length-all m w = length-append (marked m w) (unmarked m w) ∙ places-all m w
 
 pub marked-one : (m w : ℕ) → bit m w ≡ 1 → marked m (suc w) ≡ marked m w ++ (w ∷ [])
 marked-one m w e = places-in 1 m w e

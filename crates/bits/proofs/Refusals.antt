@@ -10,7 +10,7 @@ use native.Mathlib.Nat.{div-eq-of-lt, div-lt-iff-lt-mul}
 use lib.Dec.{eqb, ltb}
 use lib.Pow.{pow-pos, pow-mono}
 use borrow.Author.Tests.{lt-ltb, le-ltb, eq-eqb, ne-eqb, eqb-true}
-use Rattle.bits.specs.Refusal.{logs, logIn, logOf, accepted, fits, lowest, leftOf, Applies, Rising, IsLowest, AnswersLowest}
+use Rattle.bits.specs.Refusal.{logs, logsTo64, logIn, logOf, logTo64, isIn, accepted, acceptedTo64, fits, lowest, leftOf, Applies, Rising, IsLowest, AnswersLowest}
 
 -- `lowest` is what demand 1 asks: the lowest number that applies
 
@@ -141,13 +141,25 @@ log-in lo hi (l ∷ ls) b w = by-test (eqb w (2 ^ l)) (eqb-true w (2 ^ l)) (log-
     by-test true e r = inr (e refl, b .0, b .1)
     by-test false e r = r
 
+module _ (lo hi : ℕ) (ls : List ℕ) (b : Between lo hi ls) (w : ℕ) where
+  listed-width : isIn ls w ≡ true → Logged lo hi w (logIn ls w)
+  listed-width h = by-cases (log-in lo hi ls b w)
+    where
+      by-cases : (logIn ls w ≡ 0) ⊎ Logged lo hi w (logIn ls w) → Logged lo hi w (logIn ls w)
+      by-cases (inl e) = absurd (true≢false (sym h ∙ ap not (eq-eqb (logIn ls w) 0 e)))
+      by-cases (inr r) = r
+
+  listed-le : isIn ls w ≡ true → w ≤ 2 ^ hi
+  unfolding Logged
+  listed-le h = let z = listed-width h in omega (arith, z .0, pow-mono (z .2))
+
 pub log-width : (w : ℕ) → accepted w ≡ true → (w ≡ 2 ^ logOf w) × (3 ≤ logOf w) × (logOf w ≤ 6)
 unfolding Between Logged
-log-width w h = by-cases (log-in 3 6 logs (omega arith) w)
-  where
-    by-cases : (logOf w ≡ 0) ⊎ Logged 3 6 w (logOf w) → Logged 3 6 w (logOf w)
-    by-cases (inl e) = absurd (true≢false (sym h ∙ ap not (eq-eqb (logOf w) 0 e)))
-    by-cases (inr r) = r
+log-width = listed-width 3 6 logs (omega arith)
+
+pub log-width-64 : (w : ℕ) → acceptedTo64 w ≡ true → (w ≡ 2 ^ logTo64 w) × (3 ≤ logTo64 w) × (logTo64 w ≤ 6)
+unfolding Between Logged
+log-width-64 = listed-width 3 6 logsTo64 (omega arith)
 
 pub log-le : (w : ℕ) → logOf w ≤ 6
 unfolding Between Logged
@@ -157,14 +169,25 @@ log-le w = by-cases (log-in 3 6 logs (omega arith) w)
     by-cases (inl e) = omega arith
     by-cases (inr r) = r .2
 
+pub not-listed : (ls : List ℕ) (w : ℕ) → logIn ls w ≡ 0 → isIn ls w ≡ false
+not-listed ls w e = ap not (eq-eqb (logIn ls w) 0 e)
+
+pub is-listed : (ls : List ℕ) (w : ℕ) → (logIn ls w ≡ 0 → ⊥) → isIn ls w ≡ true
+is-listed ls w n = ap not (ne-eqb (logIn ls w) 0 n)
+
 pub not-width : (w : ℕ) → logOf w ≡ 0 → accepted w ≡ false
-not-width w e = ap not (eq-eqb (logOf w) 0 e)
+not-width = not-listed logs
 
 pub is-width : (w : ℕ) → (logOf w ≡ 0 → ⊥) → accepted w ≡ true
-is-width w n = ap not (ne-eqb (logOf w) 0 n)
+is-width = is-listed logs
 
 pub width-le : (w : ℕ) → accepted w ≡ true → w ≤ 64
-width-le w h = let z = log-width w h in omega (arith, z .0, pow-mono (z .2))
+unfolding Between
+width-le = listed-le 3 6 logs (omega arith)
+
+pub width-le-64 : (w : ℕ) → acceptedTo64 w ≡ true → w ≤ 64
+unfolding Between
+width-le-64 = listed-le 3 6 logsTo64 (omega arith)
 
 -- the code's test of a word against a width
 

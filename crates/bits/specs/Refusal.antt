@@ -6,9 +6,13 @@ use mathlib.Core.Bool.{Bool, not, cond}
 use mathlib.Core.List.{List, [], _∷_}
 use lib.Dec.{T, eqb, ltb}
 
--- The base-two logarithms of the accepted widths ("A width w is 8, 16, 32 or 64, and L is its base-two logarithm, 3 to 6")
+-- The base-two logarithms of the widths up to 64 ("A width w is 8, 16, 32 or 64, and L is its base-two logarithm, 3 to 6")
+abbrev pub logsTo64 : List ℕ
+logsTo64 = 3 ∷ 4 ∷ 5 ∷ 6 ∷ []
+
+-- and of the accepted widths. What stays at these four cites the list above.
 abbrev pub logs : List ℕ
-logs = 3 ∷ 4 ∷ 5 ∷ 6 ∷ []
+logs = logsTo64
 
 -- the logarithm of the width w among those listed, 0 if there is none
 abbrev pub logIn : List ℕ → ℕ → ℕ
@@ -18,9 +22,18 @@ logIn (l ∷ ls) w = cond (eqb w (2 ^ l)) l (logIn ls w)
 abbrev pub logOf : ℕ → ℕ
 logOf w = logIn logs w
 
--- is w one of the accepted widths?
+abbrev pub logTo64 : ℕ → ℕ
+logTo64 w = logIn logsTo64 w
+
+-- is w one of the widths listed, by their logarithms? one of those accepted? of those up to 64?
+abbrev pub isIn : List ℕ → ℕ → Bool
+isIn ls w = not (eqb (logIn ls w) 0)
+
 abbrev pub accepted : ℕ → Bool
-accepted w = not (eqb (logOf w) 0)
+accepted w = isIn logs w
+
+abbrev pub acceptedTo64 : ℕ → Bool
+acceptedTo64 w = isIn logsTo64 w
 
 -- no one at bit w or above
 abbrev pub fits : ℕ → ℕ → Bool

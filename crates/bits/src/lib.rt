@@ -4,7 +4,7 @@ ghost use mathlib.Core.Path.{_≡_};
 ghost use Prim.Native.Nat.{ℕ, _^_, _<_, _≤_};
 ghost use lib.Seq.{sets};
 ghost use Rattle.bits.specs.Bit.{byteAt, upTo, rank, countsBelow};
-ghost use Rattle.bits.specs.Refusal.{logOf, fits};
+ghost use Rattle.bits.specs.Refusal.{logOf, logTo64, fits};
 
 // The refusal numbers, paper 01, 'Calls turned back'. They are part of the interface; more may follow, none changes.
 pub const CARRIED_OUT: u8 = 0; // no refusal
@@ -38,6 +38,13 @@ pub const PLANE: u8 = 13; // a plane's rows or words a row are zero, or their pr
 // The base-two logarithm of an accepted width, 0 for any other number.
 pub fn log_of(width: u32) -> u32
     ensures { λ r. ⌜ r ≡ logOf width ⌝ }
+{
+    log_to_64(width)
+}
+
+// The same of the widths up to 64.
+pub fn log_to_64(width: u32) -> u32
+    ensures { λ r. ⌜ r ≡ logTo64 width ⌝ }
 {
     if width == 8 {
         return 3;

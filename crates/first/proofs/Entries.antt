@@ -1,6 +1,6 @@
 -- The entries of a permutation and its inverse, laid down one by one.
 -- Assumes nothing.
-use mathlib.Core.Path.{_≡_, sym, ap, _∙_, subst}
+use mathlib.Core.Path.{_≡_, ap, _∙_, subst}
 use mathlib.Core.List.{List}
 use Prim.Native.Nat.{ℕ, _+_, _*_, _≤_, _<_}
 use native.Mathlib.Decide.{decLt}
@@ -10,6 +10,7 @@ use lib.Seq.{getD-set-same, getD-set-other}
 use Rattle.routing.specs.FirstControls.{Permutes}
 use Rattle.routing.specs.Lists.{find, entry, ListPermutes}
 use Rattle.routing.proofs.ListControls.{list-permutes}
+use Rattle.routing.proofs.InverseEntries.{LaidBelow, laid-more, laid-all}
 use Rattle.first.specs.Blocks.{placeIn, Placed}
 use Rattle.first.proofs.BlockHalves.{permutes-cong}
 
@@ -18,7 +19,7 @@ pub record PlacedBelow (k : ℕ) (entries to from : List ℕ) : Type 0 where
   pub to-long : length to ≡ 64
   pub from-long : length from ≡ 64
   pub to-is : (p : ℕ) → p < k → getD to p 0 ≡ entry entries p
-  pub from-is : (p : ℕ) → p < k → getD from (entry entries p) 0 ≡ p
+  pub from-is : LaidBelow k entries from
 
 module _ (entries : List ℕ) (fits : length entries ≤ 64) (is : ListPermutes (length entries) entries) where
   abbrev w : ℕ
@@ -38,7 +39,7 @@ module _ (entries : List ℕ) (fits : length entries ≤ 64) (is : ListPermutes 
         to-long = length-set to k (entry entries k) ∙ b .to-long;
         from-long = length-set from x k ∙ b .from-long;
         to-is = λ p h. to-go p h (decLt p k);
-        from-is = λ p h. from-go p h (decLt p k);
+        from-is = laid-more w entries is k from room (omega (arith, b .from-long)) (b .from-is) q;
       }
     where
       room : k < w
@@ -50,17 +51,6 @@ module _ (entries : List ℕ) (fits : length entries ≤ 64) (is : ListPermutes 
           let z : k ≡ p = omega arith in
           subst (λ (p : ℕ). getD (store to k (entry entries k)) p 0 ≡ entry entries p) z
           (getD-set-same to k (entry entries k) 0 (omega (arith, b .to-long)))
-
-      from-go : (p : ℕ) → p < k + 1 → Dec (p < k) → getD (store from x k) (entry entries p) 0 ≡ p
-      from-go p h (yes m) =
-          getD-set-other from x (entry entries p) k 0
-          (λ z. absurd (let y = is .once p k (omega arith) room (z ∙ q) in omega arith))
-          ∙ b .from-is p m
-      from-go p h (no n) =
-          let z : k ≡ p = omega arith in
-          subst (λ (p : ℕ). getD (store from x k) (entry entries p) 0 ≡ p) z
-          (ap (λ (i : ℕ). getD (store from x k) i 0) (sym q)
-          ∙ getD-set-same from x k 0 (omega (arith, q, is .small k room, b .from-long)))
 
   pub place-end : (k : ℕ) (to from : List ℕ) → length entries ≤ k → PlacedBelow k entries to from → Placed w entries to from
   place-end k to from l b =
@@ -79,8 +69,4 @@ module _ (entries : List ℕ) (fits : length entries ≤ 64) (is : ListPermutes 
       perm =
           let π = list-permutes w entries is in
           permutes-cong w (entry entries) (λ x. find x entries) (placeIn to 0) (placeIn from 0) π to-same
-          (λ x h.
-          let q = π .from-small x h in
-          at-base from x
-          ∙ ap (λ (i : ℕ). getD from i 0) (sym (π .to-from x h))
-          ∙ b .from-is (find x entries) (below (find x entries) q))
+          (λ x h. at-base from x ∙ laid-all w entries is k from l (b .from-is) x h)

@@ -7,14 +7,14 @@ use native.Mathlib.Omega.{arith}
 use native.Mathlib.Decide.{decLt}
 use native.Mathlib.Nat.{mod-lt}
 use lib.Bits.{bitAnd, and-le-r}
-use lib.ListN.{length, getD, length-append, List·getD-append}
+use lib.ListN.{length, getD, List·getD-append}
 use lib.Seq.{getD-append-add}
 use lib.Pow.{pow-mono, pow-pos}
 use Rattle.bits.specs.Bit.{bit, rank, marked, unmarked}
 use Rattle.bits.proofs.Word.{bit-lt, bit-cases, bit-and, bit-mod, bit-mod-above, bit-not, ext}
 use Rattle.bits.proofs.Refusals.{every-answer}
 use Rattle.bits.proofs.Rank.{rank-le, rank-lt, rank-between, rank-not, select}
-use Rattle.bits.proofs.Places.{bit-pick, bit-pick-above, pick-lt, unmarked-not, length-marked, marked-at, bit-put-marked}
+use Rattle.bits.proofs.Places.{bit-pick, bit-pick-above, pick-lt, length-all, unmarked-not, length-marked, marked-at, bit-put-marked}
 use borrow.Author.Tests.{lt-ltb}
 use Rattle.gather.specs.declared.Gathered.{Gathered}
 use Rattle.gather.specs.Gather.{gatherOf, scatterOf, groupOf, refusalOf, answerOf}
@@ -40,27 +40,16 @@ module _ (w m x : ℕ) where
 
 -- Group by rank: the marked bits as gather, an unmarked one above them to the place that counts the unmarked bits below it
 module _ (w m x : ℕ) (h : m < 2 ^ w) where
-  length-all : length (marked m w ++ unmarked m w) ≡ w
-  length-all =
-      length-append (marked m w) (unmarked m w)
-      ∙ omega (
-        arith,
-        length-marked m w,
-        rank-not w h w (omega arith),
-        length-marked ((2 ^ w - 1) - m) w,
-        ap length (unmarked-not w h w (omega arith)),
-      )
-
   pub group-below : groupOf w m x < 2 ^ w
   unfolding groupOf
-  group-below = rw length-all at (pick-lt x (marked m w ++ unmarked m w))
+  group-below = rw (length-all m w) at (pick-lt x (marked m w ++ unmarked m w))
 
   module _ (p : ℕ) (l : p < w) where
     pub bit-group-marked : bit m p ≡ 1 → bit (groupOf w m x) (rank m p) ≡ bit x p
     unfolding groupOf
     bit-group-marked b =
         let r : rank m p < length (marked m w) = omega (arith, length-marked m w, rank-lt m b l) in
-        bit-pick x (marked m w ++ unmarked m w) (rank m p) (omega (arith, length-all, rank-le m p))
+        bit-pick x (marked m w ++ unmarked m w) (rank m p) (omega (arith, length-all m w, rank-le m p))
         ∙ ap (bit x) (List·getD-append (marked m w) (unmarked m w) 0 (rank m p) r ∙ marked-at m w p l b)
 
     unmarked-at : bit m p ≡ 0 → getD (unmarked m w) (p - rank m p) 0 ≡ p
@@ -75,7 +64,7 @@ module _ (w m x : ℕ) (h : m < 2 ^ w) where
         let k : rank m w + (p - rank m p) < w =
         omega (arith, b, rank-not w h p (omega arith), rank-not w h w (omega arith), bit-not w p h l, rank-lt ((2 ^ w - 1) - m) {p = p} {w = w} (omega (arith, bit-not w p h l)) l)
         in
-        bit-pick x (marked m w ++ unmarked m w) (rank m w + (p - rank m p)) (omega (arith, length-all))
+        bit-pick x (marked m w ++ unmarked m w) (rank m w + (p - rank m p)) (omega (arith, length-all m w))
         ∙ ap (bit x)
         (ap (λ (n : ℕ). getD (marked m w ++ unmarked m w) (n + (p - rank m p)) 0) (sym (length-marked m w))
         ∙ getD-append-add (marked m w) (unmarked m w) (p - rank m p) 0

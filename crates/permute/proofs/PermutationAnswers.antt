@@ -15,22 +15,29 @@ use Rattle.routing.specs.Lists.{ListPermutes, firstWords}
 use Rattle.permute.specs.declared.Routed.{Routed}
 use Rattle.permute.specs.declared.RoutedOne.{RoutedOne}
 use Rattle.permute.specs.Permutation.{namesOnce}
-use Rattle.permute.specs.Calls.{routeConditions, routeRefusal, routeAnswer, oneConditions, oneRefusal, oneAnswer}
+use Rattle.permute.specs.Calls.{entriesConditions, routeConditions, routeRefusal, routeAnswer, oneConditions, oneRefusal, oneAnswer}
 use Rattle.permute.proofs.Names.{names-permutes, permutes-names}
 
 module _ (w : ℕ) (es : List ℕ) where
-  -- the refusal, from the outcomes of the three tests: an accepted width, its length, every bit named once
+  -- the refusal, from the outcomes of the tests: the list's length, every bit named once; before these, an accepted width
+  pub entries-refusal-by : {f g : Bool} → eqb (length es) w ≡ f → namesOnce w es ≡ g
+      → lowest (entriesConditions w es) ≡ lowest ((4, not f) ∷ (5, not g) ∷ [])
+  entries-refusal-by q r = λ i. lowest ((4, not (q i)) ∷ (5, not (r i)) ∷ [])
+
   pub route-refusal-by : {a f g : Bool} → accepted w ≡ a → eqb (length es) w ≡ f → namesOnce w es ≡ g
       → routeRefusal w es ≡ lowest ((1, not a) ∷ (4, not f) ∷ (5, not g) ∷ [])
   unfolding routeRefusal
   route-refusal-by p q r = λ i. lowest ((1, not (p i)) ∷ (4, not (q i)) ∷ (5, not (r i)) ∷ [])
 
-  -- a call that is not refused is on a permutation of an accepted width
+  -- a call that is not refused is on a permutation of an accepted width, whichever widths are
+  pub entries-within : (a : Bool) → lowest ((1, not a) ∷ entriesConditions w es) ≡ 0 → (a ≡ true) × (length es ≡ w) × (namesOnce w es ≡ true)
+  entries-within a e =
+      let n = none-applies ((1, not a) ∷ entriesConditions w es) (omega arith) e in
+      (not-false _ (n .0), eqb-true (length es) w (not-false _ (n .1 .0)), not-false _ (n .1 .1 .0))
+
   pub route-within : routeRefusal w es ≡ 0 → (accepted w ≡ true) × (length es ≡ w) × (namesOnce w es ≡ true)
   unfolding routeRefusal
-  route-within e =
-      let n = none-applies (routeConditions w es) (omega arith) e in
-      (not-false _ (n .0), eqb-true (length es) w (not-false _ (n .1 .0)), not-false _ (n .1 .1 .0))
+  route-within = entries-within (accepted w)
 
   pub route-permutes : {n l : ℕ} → n ≡ routeRefusal w es → n ≡ 0 → l ≡ logOf w → (l ≤ 6) × ListPermutes (2 ^ l) es
   route-permutes {n} {l} e z q =

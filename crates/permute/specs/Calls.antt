@@ -13,9 +13,13 @@ use Rattle.permute.specs.declared.RoutedOne.{RoutedOne}
 use Rattle.permute.specs.Permutation.{namesOnce, RealisesAlone}
 use Rattle.permute.specs.First.{First}
 
--- 'Calls turned back': 1, the width; 4, "order not w long"; 5, "order entry w or above, or repeated"
+-- 'Calls turned back': 4, "order not w long"; 5, "order entry w or above, or repeated"
+abbrev pub entriesConditions : ℕ → List ℕ → List (ℕ × Bool)
+entriesConditions w entries = (4, not (eqb (length entries) w)) ∷ (5, not (namesOnce w entries)) ∷ []
+
+-- before these 1, the width
 abbrev pub routeConditions : ℕ → List ℕ → List (ℕ × Bool)
-routeConditions w entries = (1, not (accepted w)) ∷ (4, not (eqb (length entries) w)) ∷ (5, not (namesOnce w entries)) ∷ []
+routeConditions w entries = (1, not (accepted w)) ∷ entriesConditions w entries
 
 unfoldable pub routeRefusal : ℕ → List ℕ → ℕ
 routeRefusal w entries = lowest (routeConditions w entries)

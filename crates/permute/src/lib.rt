@@ -4,12 +4,13 @@ ghost use mathlib.Core.Path.{_≡_};
 ghost use mathlib.Core.Bool.{cond};
 ghost use mathlib.Core.List.{[]};
 ghost use Prim.Native.Nat.{_≤_};
+ghost use Rattle.bits.specs.Refusal.{lowest};
 ghost use Rattle.network.specs.Stage.{butterflyOf, inverseOf};
 ghost use Rattle.network.specs.Calls.{controls};
 ghost use Rattle.routing.specs.Lists.{butterflyFits, butterflyAlone, inverseFits, inverseAlone};
 ghost use Rattle.alone.specs.Calls.{fitsAlone, alone};
 ghost use Rattle.permute.specs.Permutation.{namesOnce};
-ghost use Rattle.permute.specs.Calls.{routeRefusal, routeAnswer, AnswersFirst, oneAnswer, AnswersAlone};
+ghost use Rattle.permute.specs.Calls.{entriesConditions, routeRefusal, routeAnswer, AnswersFirst, oneAnswer, AnswersAlone};
 
 // What `route` answers: 0 and the controls of both networks, or the number of the refusal and zeros.
 #[repr(C)]
@@ -47,13 +48,11 @@ fn names_once(width: usize, entries: &[u8]) -> bool
     true
 }
 
-// The lowest refusal of a call on a permutation; 0 if it is one of the width.
-fn refusal(width: u32, entries: &[u8]) -> u8
-    ensures { λ r. ⌜ r ≡ routeRefusal width (now (entries .entry)) ⌝ }
+// internal: a width of at most 64. The lowest refusal of a list of entries; 0 if they are a permutation of the width.
+pub fn entries_refusal(width: u32, entries: &[u8]) -> u8
+    requires { ⌜ width ≤ 64 ⌝ }
+    ensures { λ r. ⌜ r ≡ lowest (entriesConditions width (now (entries .entry))) ⌝ }
 {
-    if bits::log_of(width) == 0 {
-        return bits::WIDTH;
-    }
     if entries.len() != width as usize {
         return bits::LENGTH;
     }
@@ -61,6 +60,16 @@ fn refusal(width: u32, entries: &[u8]) -> u8
         return bits::ENTRY;
     }
     bits::CARRIED_OUT
+}
+
+// The lowest refusal of a call on a permutation; 0 if it is one of an accepted width.
+fn refusal(width: u32, entries: &[u8]) -> u8
+    ensures { λ r. ⌜ r ≡ routeRefusal width (now (entries .entry)) ⌝ }
+{
+    if bits::log_of(width) == 0 {
+        return bits::WIDTH;
+    }
+    entries_refusal(width, entries)
 }
 
 // The first controls for butterfly then inverse that bring every bit to its place: entry p names the bit that place p takes.

@@ -16,5 +16,6 @@ pub mod StageWords
 pub mod Level
 pub mod WalkSteps
 pub mod Arrays
+pub mod InverseEntries
 pub mod Alone
 pub mod AloneWords

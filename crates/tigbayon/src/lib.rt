@@ -1,5 +1,5 @@
 // The exported C functions, declared in include/tigbayon.h: all calls of paper 01 ('Lines, masks, orders' to 'The register unit'), those of
-// prepared networks, and of paper 02 the bit planes, tiles, subwords and planes of pixels. Each hands its arguments to one call.
+// prepared networks, and of paper 02 the bit planes, tiles, subwords, planes of pixels and permutations by groups. Each hands its arguments to one call.
 // No logic is here, and each promise is that call's. The host lends its register bank: it is copied out, and what the call
 // leaves is stored back.
 ghost use mathlib.Core.Path.{_≡_};
@@ -16,6 +16,7 @@ ghost use Rattle.planes.specs.Planes.{planesOf, wordsOfPlanes};
 ghost use Rattle.tiles.specs.Tile.{moved, transposeRule, leftRule, rightRule, columnsRule, rowsRule};
 ghost use Rattle.subwords.specs.Subword.{checkOf, exchangePairsOf, excheckOf, mixLeftOf, mixRightOf, subwordAnswer};
 ghost use Rattle.despeckle.specs.Calls.{despeckleAnswer, despeckledOut};
+ghost use Rattle.grouping.specs.Calls.{groupsAnswer};
 ghost use Rattle.permute.specs.Calls.{routeAnswer, AnswersFirst, oneAnswer, AnswersAlone};
 ghost use Rattle.gather.specs.Gather.{gatherOf, scatterOf, groupOf, answerOf};
 
@@ -115,6 +116,13 @@ pub extern "C" fn tb_route_inverse(width: u32, permutation: &[u8]) -> permute::R
     ensures alone { λ r. ⌜ AnswersAlone inverseOf width (now (permutation .entry)) r ⌝ }
 {
     permute::route_inverse(width, permutation)
+}
+
+#[no_mangle]
+pub extern "C" fn tb_route_groups(width: u32, permutation: &[u8]) -> grouping::Masks
+    ensures { λ r. ⌜ r ≡ groupsAnswer width (now (permutation .entry)) ⌝ }
+{
+    grouping::route_groups(width, permutation)
 }
 
 #[no_mangle]

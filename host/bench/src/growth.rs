@@ -21,9 +21,9 @@ use tigbayon::{
     tb_butterfly, tb_butterfly_prepared, tb_check, tb_decode, tb_exchange, tb_excheck,
     tb_from_planes, tb_gather, tb_group, tb_inverse, tb_inverse_prepared, tb_mix_left,
     tb_mix_right, tb_operate, tb_prepare_butterfly, tb_prepare_inverse, tb_read, tb_route,
-    tb_route_butterfly, tb_route_inverse, tb_run, tb_scatter, tb_tile_mirror_columns,
-    tb_tile_mirror_rows, tb_tile_transpose, tb_tile_turn_left, tb_tile_turn_right, tb_to_planes,
-    tb_write, TbBank, TbPlanes,
+    tb_route_butterfly, tb_route_groups, tb_route_inverse, tb_run, tb_scatter,
+    tb_tile_mirror_columns, tb_tile_mirror_rows, tb_tile_transpose, tb_tile_turn_left,
+    tb_tile_turn_right, tb_to_planes, tb_write, TbBank, TbPlanes,
 };
 
 /// Calls whose inputs have sizes of one sort.
@@ -79,6 +79,9 @@ pub const GROWTHS: [Growth; 6] = [
             ("route_inverse", |width| {
                 let permutation = by_network(tb_inverse);
                 routed(width, permutation, tb_route_inverse)
+            }),
+            ("route_groups", |width| {
+                routed(width, random_permutation, tb_route_groups)
             }),
         ],
     },

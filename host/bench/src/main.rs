@@ -16,6 +16,7 @@
 mod bmi2;
 mod contest;
 mod decoding;
+mod groups;
 mod growth;
 mod masks;
 mod networks;
@@ -39,7 +40,7 @@ const WIDTH: u32 = 64;
 /// A contest runs the call of its name.
 type Bench = (&'static str, fn(&str));
 
-const CONTESTS: [Bench; 28] = [
+const CONTESTS: [Bench; 29] = [
     ("butterfly", networks::butterfly),
     ("inverse", networks::inverse),
     ("prepare_butterfly", networks::prepare_butterfly),
@@ -53,6 +54,7 @@ const CONTESTS: [Bench; 28] = [
     ("route", routing::route),
     ("route_butterfly", routing::route_butterfly),
     ("route_inverse", routing::route_inverse),
+    ("route_groups", groups::route_groups),
     ("pack", packing::pack),
     ("unpack", packing::unpack),
     ("to_planes", planes::to_planes),

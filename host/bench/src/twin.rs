@@ -31,7 +31,7 @@ pub fn route(width: u32, entries: &[u8]) -> TbControls2 {
     controls(log_of(width), entries)
 }
 
-fn refusal(width: u32, entries: &[u8]) -> u8 {
+pub fn refusal(width: u32, entries: &[u8]) -> u8 {
     if log_of(width) == 0 {
         return 1;
     }
@@ -44,7 +44,7 @@ fn refusal(width: u32, entries: &[u8]) -> u8 {
     0
 }
 
-fn log_of(width: u32) -> usize {
+pub fn log_of(width: u32) -> usize {
     match width {
         8 => 3,
         16 => 4,

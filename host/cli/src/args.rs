@@ -117,9 +117,9 @@ impl Given {
     }
 
     /// Fails on two options that exclude each other.
-    pub fn at_most_one(&self, names: [&str; 2]) -> Result<(), Failure> {
-        if names.iter().all(|name| self.has(name)) {
-            let [one, other] = names;
+    pub fn at_most_one<const N: usize>(&self, names: [&str; N]) -> Result<(), Failure> {
+        let mut given = names.into_iter().filter(|name| self.has(name));
+        if let (Some(one), Some(other)) = (given.next(), given.next()) {
             let problem = format!("{one} and {other} exclude each other");
             return Err(Failure::argument(problem));
         }

@@ -1,16 +1,20 @@
-//! Drawings of networks on their controls, and of planes of pixels.
+//! Drawings of networks on their controls, of groups, and of planes of pixels.
 
 mod canvas;
 mod curves;
+mod grid;
+pub mod groups;
 mod layout;
 mod legend;
 mod palette;
 pub mod pixels;
 pub mod svg;
 pub mod text;
+mod wires;
 mod words;
 
-use crate::network::{end, path, Network, Stage};
+use crate::network::{paths, Network, Stage};
+use crate::paths::Paths;
 
 /// What stands over a drawing.
 pub struct Caption {
@@ -47,25 +51,22 @@ impl Drawing {
             .flat_map(|network| network.stages.iter().copied())
     }
 
-    /// The followed bit's places before each stage, and at the end.
-    pub fn path(&self) -> Vec<u32> {
-        path(&self.networks, self.bit)
-    }
-
-    /// The bit that each place takes.
-    pub fn sources(&self) -> Vec<u32> {
-        let mut sources: Vec<u32> = (0..self.width).collect();
-        sources.sort_by_key(|&bit| end(&self.networks, bit));
-        sources
+    /// The bits' paths through all stages.
+    pub fn paths(&self) -> Paths {
+        paths(&self.networks, self.width)
     }
 
     /// Where the followed bit goes, in words.
     pub fn journey(&self) -> String {
-        let path = self.path();
-        let halfway = path[path.len() / 2];
+        let paths = self.paths();
+        let path = paths.of(self.bit);
         match self.mask {
-            Some(_) => format!("bit {}, to place {halfway} and back", self.bit),
-            None => format!("bit {}, to place {}", self.bit, path[path.len() - 1]),
+            Some(_) => format!(
+                "bit {}, to place {} and back",
+                self.bit,
+                path[path.len() / 2]
+            ),
+            None => paths.journey(self.bit),
         }
     }
 }

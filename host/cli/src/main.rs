@@ -1,4 +1,4 @@
-//! The library's calls from the command line, and drawings of networks and planes.
+//! The library's calls from the command line, and drawings of networks, groups and planes.
 //!
 //! `tigbayon --help` lists the commands.
 
@@ -8,9 +8,11 @@ mod command;
 mod commands;
 mod drawing;
 mod failure;
+mod groups;
 mod help;
 mod network;
 mod number;
+mod paths;
 mod picture;
 mod plane;
 

@@ -1,6 +1,7 @@
 //! A network on its controls, as it is printed and drawn.
 
 use crate::number::hex_list;
+use crate::paths::Paths;
 use std::fmt;
 use tigbayon::Controls;
 
@@ -114,8 +115,13 @@ impl fmt::Display for Network {
     }
 }
 
-/// The places of a bit before each stage of these networks, and at the end.
-pub fn path(networks: &[Network], bit: u32) -> Vec<u32> {
+/// The paths of all bits through these networks.
+pub fn paths(networks: &[Network], width: u32) -> Paths {
+    (0..width).map(|bit| path(networks, bit)).collect()
+}
+
+/// The places of a bit before each stage, and at the end.
+fn path(networks: &[Network], bit: u32) -> Vec<u32> {
     let mut places = vec![bit];
     let mut place = bit;
     for stage in networks.iter().flat_map(|network| &network.stages) {
@@ -123,19 +129,6 @@ pub fn path(networks: &[Network], bit: u32) -> Vec<u32> {
         places.push(place);
     }
     places
-}
-
-/// Where these networks take a bit.
-pub fn end(networks: &[Network], bit: u32) -> u32 {
-    path(networks, bit).last().copied().unwrap_or(bit)
-}
-
-/// Of the bits below `count`, the one that is taken farthest; the lowest of
-/// them, or 0.
-pub fn farthest(networks: &[Network], count: u32) -> u32 {
-    let distance = |&bit: &u32| end(networks, bit).abs_diff(bit);
-    let downwards = (0..count).rev();
-    downwards.max_by_key(distance).unwrap_or(0)
 }
 
 #[cfg(test)]
@@ -155,9 +148,9 @@ mod tests {
     }
 
     fn assert_paths_end_as_asked(width: u32, permutation: &[u8]) {
-        let networks = routed(width, permutation);
+        let paths = paths(&routed(width, permutation), width);
         for (place, &bit) in (0..).zip(permutation) {
-            assert_eq!(end(&networks, bit.into()), place);
+            assert_eq!(paths.end(bit.into()), place);
         }
     }
 
@@ -179,7 +172,7 @@ mod tests {
                 let there = [Network::butterfly(width, decoded.butterfly)];
                 let back = [Network::inverse(width, decoded.inverse)];
                 let bit = word as u32 % width;
-                let (gone, come) = (end(&there, bit), end(&back, bit));
+                let [gone, come] = [there, back].map(|network| paths(&network, width).end(bit));
                 assert_eq!(
                     butterfly(width, &decoded.butterfly, 1 << bit),
                     Ok(1 << gone)
@@ -209,12 +202,12 @@ mod tests {
 
     #[test]
     fn the_farthest_bit() {
-        let networks = routed(8, &[0, 4, 2, 3, 1, 5, 6, 7]);
-        assert_eq!(farthest(&networks, 8), 1);
-        assert_eq!(path(&networks, 1)[0], 1);
-        assert_eq!(end(&networks, 1), 4);
-        let still = routed(8, &[0, 1, 2, 3, 4, 5, 6, 7]);
-        assert_eq!(farthest(&still, 8), 0);
-        assert_eq!(farthest(&still, 0), 0);
+        let swapped = paths(&routed(8, &[0, 4, 2, 3, 1, 5, 6, 7]), 8);
+        assert_eq!(swapped.farthest(8), 1);
+        assert_eq!(swapped.of(1)[0], 1);
+        assert_eq!(swapped.end(1), 4);
+        let still = paths(&routed(8, &[0, 1, 2, 3, 4, 5, 6, 7]), 8);
+        assert_eq!(still.farthest(8), 0);
+        assert_eq!(still.farthest(0), 0);
     }
 }

@@ -252,6 +252,11 @@ fn options() {
     assert_unread(&route(&["--text", "--text"]), "--text is given twice");
     let exclude = "--butterfly and --inverse exclude each other";
     assert_unread(&route(&["--inverse", "--butterfly"]), exclude);
+    assert_unread(&route(&["--groups", "--inverse", "--butterfly"]), exclude);
+    let exclude = "--butterfly and --groups exclude each other";
+    assert_unread(&route(&["--groups", "--butterfly"]), exclude);
+    let exclude = "--inverse and --groups exclude each other";
+    assert_unread(&route(&["--inverse", "--groups"]), exclude);
     let both = "--svg - and --text both write to the output";
     assert_unread(&route(&["--svg", "-", "--text"]), both);
     let exclude = "--out and --length exclude each other";
@@ -264,6 +269,27 @@ fn options() {
     let bit = "--bit is \"8\", expected a bit of the width, from 0 to 7";
     assert_unread(&route(&["--text", "--bit", "8"]), bit);
     assert_unread(&route(&["--text", "--bit", "x"]), "--bit is \"x\"");
+}
+
+#[test]
+fn options_with_groups() {
+    let groups = |options: &[&'static str]| {
+        let route = ["route", "8", "0,1,2,3,4,5,6,7", "--groups"];
+        [&route, options].concat()
+    };
+    assert_unread(&groups(&["--groups"]), "--groups is given twice");
+    let both = "--svg - and --text both write to the output";
+    assert_unread(&groups(&["--svg", "-", "--text"]), both);
+    let drawing = "--bit needs a drawing, by --svg or --text";
+    assert_unread(&groups(&["--bit", "1"]), drawing);
+    let bit = "--bit is \"8\", expected a bit of the width, from 0 to 7";
+    assert_unread(&groups(&["--svg", "-", "--bit", "8"]), bit);
+    let value = "--groups takes no value";
+    assert_unread(&["route", "8", "0,1,2,3,4,5,6,7", "--groups=3"], value);
+    for command in ["decode", "compare", "group"] {
+        let unknown = format!("--groups is no option of {command}");
+        assert_unread(&[command, "8", "1", "1", "--groups"], &unknown);
+    }
 }
 
 /// The hint leads to the help of the command.

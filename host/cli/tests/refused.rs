@@ -5,6 +5,9 @@ mod support;
 use support::{run, Outcome};
 use tigbayon::Refusal;
 
+/// What a permutation is routed by: both networks, one alone, or groups.
+const MEANS: [&[&str]; 4] = [&[], &["--butterfly"], &["--inverse"], &["--groups"]];
+
 /// Asserts that the call is refused so, and that nothing else is said.
 fn assert_refused(args: &[&str], refusal: Refusal) {
     let Outcome {
@@ -25,7 +28,10 @@ fn by_width() {
             assert_refused(&[call, width, "1", "1"], Refusal::Width);
         }
         assert_refused(&["decode", width, "1"], Refusal::Width);
-        assert_refused(&["route", width, "0,1,2"], Refusal::Width);
+        for means in MEANS {
+            let args = [&["route", width, "0,1,2"], means].concat();
+            assert_refused(&args, Refusal::Width);
+        }
         assert_refused(&["compare", width, "1/1", "10/1"], Refusal::Width);
         for network in ["--butterfly", "--inverse"] {
             assert_refused(&["compare", width, "1", "10", network], Refusal::Width);
@@ -99,8 +105,8 @@ fn by_an_unused_control_of_a_set() {
 #[test]
 fn by_length() {
     let list = vec!["1"; 4100].join(",");
-    for network in [[].as_slice(), &["--butterfly"], &["--inverse"]] {
-        let route = |permutation| [&["route", "8", permutation], network].concat();
+    for means in MEANS {
+        let route = |permutation| [&["route", "8", permutation], means].concat();
         assert_refused(&route(""), Refusal::Length);
         assert_refused(&route("0,1,2,3,4,5,6"), Refusal::Length);
         assert_refused(&route("0,1,2,3,4,5,6,7,8"), Refusal::Length);
@@ -112,9 +118,9 @@ fn by_length() {
 
 #[test]
 fn by_an_entry() {
-    for network in [[].as_slice(), &["--butterfly"], &["--inverse"]] {
+    for means in MEANS {
         for permutation in ["0,0,2,3,4,5,6,7", "0,1,2,3,4,5,6,8", "0,1,2,3,4,5,6,255"] {
-            let args = [&["route", "8", permutation], network].concat();
+            let args = [&["route", "8", permutation], means].concat();
             assert_refused(&args, Refusal::Entry);
         }
     }
@@ -265,6 +271,10 @@ fn leave_no_file() {
     assert_refused(&["decode", "12", "1", "--svg", name], Refusal::Width);
     assert_refused(
         &["route", "8", "1", "--svg", name, "--bit", "9"],
+        Refusal::Length,
+    );
+    assert_refused(
+        &["route", "8", "1", "--groups", "--svg", name, "--bit", "9"],
         Refusal::Length,
     );
     assert_refused(&["despeckle", "", "--svg", name], Refusal::Plane);

@@ -5,82 +5,14 @@ mod support;
 use std::collections::{HashMap, HashSet};
 use std::sync::LazyLock;
 use support::drawn::{calls, switches, Call};
-use support::elements::{assert_on_sheet, elements, Element, Point};
+use support::elements::{assert_on_sheet, Element, Point};
+use support::wires::Read;
 use support::{list, prints};
 
-impl Element {
-    /// The lines of a path, each by its points from left to right; those that
-    /// only shape a curve are left out.
-    fn lines(&self) -> Vec<Vec<Point>> {
-        let mut lines: Vec<Vec<Point>> = Vec::new();
-        let data = &self.attributes["d"];
-        let starts = data.match_indices(char::is_alphabetic).map(|(at, _)| at);
-        let starts: Vec<usize> = starts.chain([data.len()]).collect();
-        for part in starts.windows(2).map(|ends| &data[ends[0]..ends[1]]) {
-            let numbers = part[1..].split(' ').map(|number| number.parse().unwrap());
-            let numbers: Vec<i32> = numbers.collect();
-            match (&part[..1], numbers.as_slice()) {
-                ("M", &[x, y]) => lines.push(vec![(x, y)]),
-                ("H", &[x]) => {
-                    let line = lines.last_mut().unwrap();
-                    line.push((x, line[line.len() - 1].1));
-                }
-                ("C", &[_, _, _, _, x, y]) => lines.last_mut().unwrap().push((x, y)),
-                _ => panic!("unknown part {part}"),
-            }
-        }
-        lines
-    }
-}
-
-/// The place of each height, from the wires, which are drawn from the top down.
-fn places(elements: &[Element]) -> HashMap<i32, u32> {
-    let rails = elements.iter().filter(|element| element.is("rail"));
-    let heights: Vec<i32> = rails.map(|rail| rail.lines()[0][0].1).collect();
-    assert!(heights.is_sorted());
-    heights.into_iter().rev().zip(0..).collect()
-}
-
-/// A drawing, read back.
-struct Read {
-    elements: Vec<Element>,
-    /// The place of each height.
-    places: HashMap<i32, u32>,
-}
-
-impl Read {
-    fn of(args: &[&str]) -> Self {
-        let elements = elements(&prints(&[args, &["--svg", "-"]].concat()));
-        let places = places(&elements);
-        Read { elements, places }
-    }
-
-    /// The elements that draw switches, by number of stage and switch; each
-    /// switch has one.
-    fn switches(&self) -> HashMap<(usize, u32), &Element> {
-        let mut switches = HashMap::new();
-        for element in &self.elements {
-            let number = |name| Some(element.attributes.get(name)?.parse().unwrap());
-            if let (Some(stage), Some(switch)) = (number("data-stage"), number("data-switch")) {
-                let twice = switches.insert((stage, switch as u32), element);
-                assert!(twice.is_none(), "stage {stage}, switch {switch}");
-            }
-        }
-        switches
-    }
-
-    /// The points of the followed bit's path.
-    fn path(&self) -> Vec<Point> {
-        let paths = self.elements.iter().filter(|element| element.is("path"));
-        let lines: Vec<Vec<Point>> = paths.flat_map(Element::lines).collect();
-        assert_eq!(lines.len(), 1, "the path is one line");
-        lines.concat()
-    }
-
-    /// The place of a point.
-    fn place(&self, point: Point) -> u32 {
-        self.places[&point.1]
-    }
+/// The elements that draw switches, by number of stage and switch; each switch has
+/// one.
+fn drawn_switches(read: &Read) -> HashMap<(usize, u32), &Element> {
+    read.numbered(["data-stage", "data-switch"])
 }
 
 /// Every call, and its drawing.
@@ -95,7 +27,7 @@ static DRAWINGS: LazyLock<Vec<(Call, Read)>> = LazyLock::new(|| {
 #[test]
 fn every_switch_is_drawn_once_as_its_control_says() {
     for (call, read) in DRAWINGS.iter() {
-        let drawn = read.switches();
+        let drawn = drawn_switches(read);
         let switches = switches(call.width, &prints(&call.args()));
         assert_eq!(drawn.len(), switches.len());
         for switch in switches {
@@ -128,7 +60,7 @@ fn the_path_ends_where_the_permutation_says() {
 #[test]
 fn the_path_lies_on_the_lines() {
     for (_, read) in DRAWINGS.iter() {
-        let lines = read.switches().into_values().flat_map(Element::lines);
+        let lines = drawn_switches(read).into_values().flat_map(Element::lines);
         let lines: HashSet<Vec<Point>> = lines.collect();
         let path = read.path();
         let within = &path[1..path.len() - 1];
@@ -167,7 +99,7 @@ fn marked_places_are_full() {
 #[test]
 fn all_lies_on_the_sheet() {
     for (_, read) in DRAWINGS.iter() {
-        let drawn = read.switches().into_values().flat_map(Element::lines);
+        let drawn = drawn_switches(read).into_values().flat_map(Element::lines);
         assert_on_sheet(&read.elements, drawn.flatten().chain(read.path()));
     }
 }

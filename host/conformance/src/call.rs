@@ -4,13 +4,14 @@ use crate::controls::Controls;
 use crate::guards::{only_read, only_read_array};
 use model::decoder::Decoded;
 use model::gather::Gathered;
+use model::groups::Masks;
 use model::prepared::Swaps;
 use model::refusal::Answer;
 use model::routing::Routed;
 use std::fmt::Debug;
 use std::iter::zip;
 use tigbayon::{PreparedButterfly, PreparedInverse, Refusal};
-use tigbayon::{TbCarried, TbControls1, TbControls2, TbGathered, TbPrepared};
+use tigbayon::{TbCarried, TbControls1, TbControls2, TbGathered, TbMasks, TbPrepared};
 
 /// What a call goes by: a mask, controls or the first of two words, which are handed
 /// over, or a permutation, which is lent.
@@ -180,6 +181,18 @@ pub const ROUTE_INVERSE: Call<[u8], Controls, ()> = Call {
     model: |width, permutation, ()| model::routing::route_inverse(width, permutation),
 };
 
+/// Routing by groups.
+pub const ROUTE_GROUPS: Call<[u8], Masks, ()> = Call {
+    name: "route_groups",
+    raw: |width, permutation, ()| {
+        masks(only_read(permutation, |permutation| {
+            tigbayon::tb_route_groups(width, permutation)
+        }))
+    },
+    wrapped: |width, permutation, ()| tigbayon::route_groups(width, permutation),
+    model: |width, permutation, ()| model::groups::route_groups(width, permutation),
+};
+
 /// Check.
 pub const CHECK: Call<u64> = Call {
     name: "check",
@@ -312,6 +325,19 @@ pub fn route(width: u32, permutation: &[u8]) -> Routed {
     ROUTE.result(width, permutation, ())
 }
 
+/// The checked masks of a permutation that must be accepted.
+pub fn route_groups(width: u32, permutation: &[u8]) -> Masks {
+    ROUTE_GROUPS.result(width, permutation, ())
+}
+
+/// The word grouped by these masks in turn, each of which must be accepted.
+pub fn grouped(width: u32, masks: &[u64], word: u64) -> u64 {
+    masks.iter().fold(word, |word, &mask| {
+        let grouped = tigbayon::group(width, mask, word);
+        grouped.expect("accepted").word
+    })
+}
+
 /// The checked word that these networks make of this one in turn, each on its
 /// controls, which must be accepted.
 pub fn through(networks: &[Call<Controls>], width: u32, set: &[Controls], word: u64) -> u64 {
@@ -377,5 +403,10 @@ fn routed(answer: TbControls2) -> Answer<Routed> {
 
 fn controls(TbControls1 { refusal, stages }: TbControls1) -> Answer<Controls> {
     let result = stages;
+    Answer { refusal, result }
+}
+
+fn masks(TbMasks { refusal, masks }: TbMasks) -> Answer<Masks> {
+    let result = masks;
     Answer { refusal, result }
 }

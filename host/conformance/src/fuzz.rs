@@ -5,7 +5,8 @@ use crate::arbitrary::{budget, controls, cut, end, length, list, operation, othe
 use crate::arbitrary::{permutation, plane, register, size, widths, word};
 use crate::call::{Call, BUTTERFLY, DECODE, GATHER, GROUP, INVERSE, SCATTER};
 use crate::call::{CHECK, EXCHANGE, EXCHECK, MIX_LEFT, MIX_RIGHT};
-use crate::call::{PREPARE_BUTTERFLY, PREPARE_INVERSE, ROUTE, ROUTE_BUTTERFLY, ROUTE_INVERSE};
+use crate::call::{PREPARE_BUTTERFLY, PREPARE_INVERSE};
+use crate::call::{ROUTE, ROUTE_BUTTERFLY, ROUTE_GROUPS, ROUTE_INVERSE};
 use crate::controls::Controls;
 use crate::packing::{PackingCall, PACK, UNPACK};
 use crate::pixels::despeckle;
@@ -35,7 +36,7 @@ struct Target {
     check: fn(&mut Random) -> u8,
 }
 
-const TARGETS: [Target; 32] = [
+const TARGETS: [Target; 33] = [
     target("gather", &[0, 1, 2], |random| masked(random, GATHER)),
     target("scatter", &[0, 1, 2], |random| masked(random, SCATTER)),
     target("group", &[0, 1, 2], |random| masked(random, GROUP)),
@@ -65,6 +66,9 @@ const TARGETS: [Target; 32] = [
     }),
     target("route_inverse", &[0, 1, 4, 5, 6], |random| {
         routed(random, ROUTE_INVERSE)
+    }),
+    target("route_groups", &[0, 1, 4, 5], |random| {
+        routed(random, ROUTE_GROUPS)
     }),
     target("pack", &[0, 9, 10], |random| packed(random, PACK, as_it_is)),
     target("unpack", &[0, 9, 10, 11], |random| {
@@ -214,7 +218,6 @@ fn paired(random: &mut Random, call: Call<u64>) -> u8 {
 }
 
 /// For each call, how often it answered each refusal number.
-#[derive(Default)]
 pub struct Tally([[u64; NUMBERS]; TARGETS.len()]);
 
 impl Tally {
@@ -250,7 +253,7 @@ impl Display for Tally {
 /// model, before the panic goes on.
 pub fn fuzz(calls: u64, seed: u64) -> Tally {
     println!("seed {seed:#x}");
-    let mut tally = Tally::default();
+    let mut tally = Tally([[0; NUMBERS]; TARGETS.len()]);
     for number in 0..calls {
         let own_seed = seed.wrapping_add(number);
         let checked = catch_unwind(|| {

@@ -5,11 +5,25 @@ use std::fs;
 use std::mem::{align_of, offset_of, size_of};
 use std::path::{Path, PathBuf};
 use std::process::Command;
-use tigbayon::{Refusal, TbBank, TbCarried, TbControls1, TbControls2};
-use tigbayon::{TbCycles, TbGathered, TbPacked, TbPlanes, TbPrepared, TbRegister, TbRun};
+use tigbayon::{Refusal, TbBank, TbCarried, TbControls1, TbControls2, TbCycles};
+use tigbayon::{TbGathered, TbMasks, TbPacked, TbPlanes, TbPrepared, TbRegister, TbRun};
 
 const CRATE: &str = env!("CARGO_MANIFEST_DIR");
 const README: &str = include_str!("../../../README.md");
+
+/// What it prints of routing by groups, and of a word grouped so.
+const GROUPS: &str = "\
+    route_groups 0: aa a5 95 0 0 0\n\
+    group 0 4 6d\n\
+    group 0 4 a7\n\
+    group 0 4 5b\n\
+    route_groups 0: aaaaaaaaaaaaaaaa aaaaaaaaaaaaaaaa aaaaaaaaaaaaaaaa aaaaaaaaaaaaaaaa \
+    aaaaaaaaaaaaaaaa aaaaaaaaaaaaaaaa\n\
+    route_groups 1: 0 0 0 0 0 0\n\
+    route_groups 4: 0 0 0 0 0 0\n\
+    route_groups 5: 0 0 0 0 0 0\n\
+    route_groups 4: 0 0 0 0 0 0\n\
+    permutation 1 2 3 4 5 6 7 0\n";
 
 /// What it prints of prepared networks.
 const PREPARED: &str = "\
@@ -163,6 +177,7 @@ fn layouts() -> String {
         + &layout!(TbPrepared, refusal, swaps)
         + &layout!(TbControls1, refusal, stages)
         + &layout!(TbControls2, refusal, butterfly, inverse)
+        + &layout!(TbMasks, refusal, masks)
         + &layout!(TbPacked, refusal, count, bits)
         + &layout!(TbPlanes, words)
         + &layout!(TbBank, general, b, ib)
@@ -202,7 +217,9 @@ fn expected() -> String {
         route_inverse 4 0 0 0 0 0 0\n\
         permutation 0 4 2 3 1 5 6 7\n";
     let numbers = format!("numbers 0{}\n", numbers.concat());
-    let calls = [PREPARED, PACKING, PLANES, TILES, SUBWORDS, PIXELS, UNIT];
+    let calls = [
+        GROUPS, PREPARED, PACKING, PLANES, TILES, SUBWORDS, PIXELS, UNIT,
+    ];
     layouts() + &numbers + answers + &calls.concat()
 }
 

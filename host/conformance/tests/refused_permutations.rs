@@ -1,7 +1,7 @@
 //! Damaged permutations get the lowest number that applies, and zeros for the
 //! rest.
 
-use conformance::call::{ROUTE, ROUTE_ONE};
+use conformance::call::{ROUTE, ROUTE_GROUPS, ROUTE_ONE};
 use conformance::permutations::{identity, index_reversal, reversal, swap};
 use conformance::refusals::{assert_number, other_widths};
 use conformance::samples::{random_permutation, Random};
@@ -14,6 +14,7 @@ const CASE_9: [u8; 8] = [0, 4, 2, 3, 1, 5, 6, 7];
 fn assert_refused(number: u8, width: u32, permutation: &[u8]) {
     assert_number(&[ROUTE], number, width, permutation, ());
     assert_number(&ROUTE_ONE, number, width, permutation, ());
+    assert_number(&[ROUTE_GROUPS], number, width, permutation, ());
 }
 
 /// Lists of this length: entries in order (cut to a byte), all alike, and a
@@ -143,6 +144,7 @@ fn examples_of_the_table_of_refusals() {
     assert_refused(5, 8, &[0, 0, 2, 3, 4, 5, 6, 7]);
     assert_number(&ROUTE_ONE, 6, 8, &CASE_9, ());
     assert_number(&[ROUTE], 0, 8, &CASE_9, ());
+    assert_number(&[ROUTE_GROUPS], 0, 8, &CASE_9, ());
 }
 
 /// Each number with every higher one.

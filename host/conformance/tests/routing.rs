@@ -1,7 +1,7 @@
 //! Paper 01's "Finder": its controls bring every bit of every word to its
 //! place.
 
-use conformance::call::route;
+use conformance::call::{route, route_groups};
 use conformance::permutations::{all_of_width_8, product, rotation, swap, FIXED};
 use conformance::samples::for_each_permutation;
 use conformance::{low_ones, WIDTHS};
@@ -75,11 +75,13 @@ fn bytes_beside_a_permutation_are_not_looked_at() {
     for width in WIDTHS {
         for_each_permutation(width, 3, |permutation, _| {
             let routed = route(width, permutation);
+            let masks = route_groups(width, permutation);
             for (beside, before) in [(0, 1), (3, 2), (255, 7)] {
                 let padding = vec![beside; before];
                 let bytes = [&padding[..], permutation, &padding[..]].concat();
                 let permutation = &bytes[before..before + permutation.len()];
                 assert_eq!(route(width, permutation), routed);
+                assert_eq!(route_groups(width, permutation), masks);
             }
         });
     }

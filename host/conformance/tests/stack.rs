@@ -19,9 +19,10 @@ use tigbayon::{
     tb_butterfly, tb_butterfly_prepared, tb_check, tb_decode, tb_despeckle, tb_exchange,
     tb_excheck, tb_from_planes, tb_gather, tb_group, tb_inverse, tb_inverse_prepared, tb_mix_left,
     tb_mix_right, tb_operate, tb_pack, tb_prepare_butterfly, tb_prepare_inverse, tb_read, tb_route,
-    tb_route_butterfly, tb_route_inverse, tb_run, tb_scatter, tb_tile_mirror_columns,
-    tb_tile_mirror_rows, tb_tile_transpose, tb_tile_turn_left, tb_tile_turn_right, tb_to_planes,
-    tb_unpack, tb_write, TbCarried, TbGathered, TbPacked, TbPlanes, TbPrepared,
+    tb_route_butterfly, tb_route_groups, tb_route_inverse, tb_run, tb_scatter,
+    tb_tile_mirror_columns, tb_tile_mirror_rows, tb_tile_transpose, tb_tile_turn_left,
+    tb_tile_turn_right, tb_to_planes, tb_unpack, tb_write, TbCarried, TbGathered, TbPacked,
+    TbPlanes, TbPrepared,
 };
 
 /// No call may use as many bytes.
@@ -50,7 +51,7 @@ impl Gauge {
 /// Measures a call once on each sort of input.
 type Measure = fn(&mut Gauge);
 
-const CALLS: [(&str, Measure); 33] = [
+const CALLS: [(&str, Measure); 34] = [
     ("(none)", |gauge| gauge.measure(|| ())),
     ("tb_gather", |gauge| masked(gauge, tb_gather)),
     ("tb_scatter", |gauge| masked(gauge, tb_scatter)),
@@ -79,6 +80,7 @@ const CALLS: [(&str, Measure); 33] = [
         routed(gauge, tb_route_butterfly)
     }),
     ("tb_route_inverse", |gauge| routed(gauge, tb_route_inverse)),
+    ("tb_route_groups", |gauge| routed(gauge, tb_route_groups)),
     ("tb_pack", |gauge| packed(gauge, tb_pack)),
     ("tb_unpack", |gauge| packed(gauge, tb_unpack)),
     ("tb_to_planes", |gauge| converted(gauge, tb_to_planes)),

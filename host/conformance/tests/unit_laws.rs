@@ -6,7 +6,7 @@ use conformance::samples::{for_each, for_each_permutation, Random};
 use conformance::unit::lent;
 use model::permutation::permuted;
 use std::array;
-use tigbayon::{butterfly, decode, gather, group, inverse, route, scatter};
+use tigbayon::{butterfly, decode, gather, group, inverse, route, route_groups, scatter};
 use tigbayon::{Bank, Controls, End, Gathered, Refusal, Run};
 
 type Outcome = Result<(), Refusal>;
@@ -220,6 +220,21 @@ fn a_list_of_six_operations_permutes_by_routed_controls() {
         }
         let (end, ran, cycles) = (End::Done, 6, 6);
         assert_eq!(bank.run(&LIST.concat(), 6), Ok(Run { end, ran, cycles }));
+        assert_eq!(bank.general[0], permuted(permutation, word));
+    });
+}
+
+/// Routed masks in registers 4 to 9, the word in register 0: kind 10 six times.
+#[test]
+fn a_list_of_six_groups_permutes_by_routed_masks() {
+    let list: Vec<u8> = (4..10).flat_map(|mask| [10, 0, 0, mask]).collect();
+    for_each_permutation(64, 5, |permutation, word| {
+        let masks = route_groups(64, permutation).expect("not refused");
+        let mut bank = Bank::default();
+        bank.general[0] = word;
+        bank.general[4..10].copy_from_slice(&masks);
+        let (end, ran, cycles) = (End::Done, 6, 18);
+        assert_eq!(bank.run(&list, 18), Ok(Run { end, ran, cycles }));
         assert_eq!(bank.general[0], permuted(permutation, word));
     });
 }

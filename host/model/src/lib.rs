@@ -11,6 +11,7 @@
 pub mod bits;
 pub mod decoder;
 pub mod gather;
+pub mod groups;
 pub mod network;
 pub mod packing;
 pub mod permutation;

@@ -1,7 +1,7 @@
 //! Permutations ("Lines, masks, orders" of paper 01, which calls them orders).
 
 use crate::bits::{bits_of, word_of};
-use crate::refusal::{is_width, ENTRY, LENGTH, WIDTH};
+use crate::refusal::{ENTRY, LENGTH, WIDTH};
 
 /// "Entry p names the line of the word that result line p takes."
 ///
@@ -19,13 +19,14 @@ pub fn permuted(permutation: &[u8], word: u64) -> u64 {
     word_of(&sources.map(|source| word[source]).collect::<Vec<_>>())
 }
 
-/// The refusals of every call of a permutation, each with whether it applies.
+/// The refusals of every call of a permutation, each with whether it applies, where
+/// the call accepts these widths.
 ///
 /// "order not w long"; "order entry w or above, or repeated"
-pub(crate) fn conditions(width: u32, permutation: &[u8]) -> [(u8, bool); 3] {
+pub(crate) fn conditions(widths: &[u32], width: u32, permutation: &[u8]) -> [(u8, bool); 3] {
     let beyond = permutation.iter().any(|&entry| u32::from(entry) >= width);
     [
-        (WIDTH, !is_width(width)),
+        (WIDTH, !widths.contains(&width)),
         (LENGTH, permutation.len() != width as usize),
         (ENTRY, beyond || has_repeated(permutation)),
     ]

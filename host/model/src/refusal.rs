@@ -69,8 +69,11 @@ pub fn lowest(conditions: &[(u8, bool)]) -> u8 {
 }
 
 /// "A width w is 8, 16, 32 or 64"
+pub const WIDTHS: [u32; 4] = [8, 16, 32, 64];
+
+/// Whether it is one of them.
 pub fn is_width(width: u32) -> bool {
-    [8, 16, 32, 64].contains(&width)
+    WIDTHS.contains(&width)
 }
 
 /// "has a one at line w or above"

@@ -12,7 +12,7 @@
 
 use crate::network::{butterfly_distances, controls_of, inverse_distances, Controls};
 use crate::permutation::conditions;
-use crate::refusal::{lowest, Answer, NONE, NOT_REALISED};
+use crate::refusal::{lowest, Answer, NONE, NOT_REALISED, WIDTHS};
 use std::iter::{once, zip};
 
 /// Control bits of a stage, or of a block's part of it: true means pass.
@@ -52,7 +52,7 @@ impl Routed {
 /// assert_eq!(routed.inverse, [0xB, 0xF, 0xD, 0, 0, 0]);
 /// ```
 pub fn route(width: u32, permutation: &[u8]) -> Answer<Routed> {
-    Answer::of(&conditions(width, permutation), || {
+    Answer::of(&conditions(&WIDTHS, width, permutation), || {
         Routed::of(&stages_by(&mut first_stage, &numbers(permutation)))
     })
 }
@@ -220,7 +220,7 @@ fn one_network(
     permutation: &[u8],
     distances: impl Fn(usize) -> Vec<usize>,
 ) -> Answer<Controls> {
-    let mut conditions = conditions(width, permutation).to_vec();
+    let mut conditions = conditions(&WIDTHS, width, permutation).to_vec();
     let mut stages = None;
     if lowest(&conditions) == NONE {
         stages = forced_stages(&distances(width as usize), numbers(permutation));

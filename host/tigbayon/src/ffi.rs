@@ -59,6 +59,17 @@ pub struct TbControls2 {
     pub inverse: [u32; 6],
 }
 
+/// The answer of routing by groups.
+#[repr(C)]
+#[derive(Clone, Copy, Debug, PartialEq, Eq)]
+pub struct TbMasks {
+    /// The refusal's number, 0 where the call is carried out.
+    pub refusal: u8,
+    /// The masks of its steps, and zeros after them; zeros where the call is
+    /// refused.
+    pub masks: [u64; 6],
+}
+
 /// The answer of pack and unpack.
 #[repr(C)]
 #[derive(Clone, Copy, Debug, PartialEq, Eq)]
@@ -158,6 +169,12 @@ impl From<TbControls2> for Result<Routed, Refusal> {
     }
 }
 
+impl From<TbMasks> for Result<[u64; 6], Refusal> {
+    fn from(answer: TbMasks) -> Self {
+        Refusal::check(answer.refusal).map(|()| answer.masks)
+    }
+}
+
 impl From<TbPacked> for Result<Packed, Refusal> {
     fn from(answer: TbPacked) -> Self {
         Refusal::check(answer.refusal).map(|()| Packed {
@@ -248,7 +265,7 @@ unsafe extern "C" {
 /// The calls of a permutation, of lists of words or of operations, which cross as
 /// pointers and lengths.
 mod by_pointer {
-    use super::{TbBank, TbControls1, TbControls2, TbPacked, TbRun};
+    use super::{TbBank, TbControls1, TbControls2, TbMasks, TbPacked, TbRun};
 
     #[allow(unsafe_code)]
     unsafe extern "C" {
@@ -256,6 +273,7 @@ mod by_pointer {
         pub fn tb_route_butterfly(width: u32, permutation: *const u8, length: usize)
             -> TbControls1;
         pub fn tb_route_inverse(width: u32, permutation: *const u8, length: usize) -> TbControls1;
+        pub fn tb_route_groups(width: u32, permutation: *const u8, length: usize) -> TbMasks;
         pub fn tb_pack(
             mask: u64,
             words: *const u64,
@@ -310,6 +328,13 @@ pub fn tb_route_butterfly(width: u32, permutation: &[u8]) -> TbControls1 {
 pub fn tb_route_inverse(width: u32, permutation: &[u8]) -> TbControls1 {
     // Safe, as in tb_route.
     unsafe { by_pointer::tb_route_inverse(width, permutation.as_ptr(), permutation.len()) }
+}
+
+/// See [`crate::route_groups()`].
+#[allow(unsafe_code)]
+pub fn tb_route_groups(width: u32, permutation: &[u8]) -> TbMasks {
+    // Safe, as in tb_route.
+    unsafe { by_pointer::tb_route_groups(width, permutation.as_ptr(), permutation.len()) }
 }
 
 /// See [`crate::pack()`].

@@ -1,4 +1,4 @@
-//! The controls that bring about a permutation.
+//! The controls, or the masks, that bring about a permutation.
 
 use crate::{ffi, Controls, Refusal};
 
@@ -111,4 +111,40 @@ pub fn route_butterfly(width: u32, permutation: &[u8]) -> Result<Controls, Refus
 /// ```
 pub fn route_inverse(width: u32, permutation: &[u8]) -> Result<Controls, Refusal> {
     ffi::tb_route_inverse(width, permutation).into()
+}
+
+/// Finds the masks by which [`group`](crate::group()) permutes every word, step by
+/// step: a word is grouped by the first mask, what that answers by the second, and so
+/// on.
+///
+/// There are as many steps as a network has stages: 3, 4, 5 or 6 at width 8, 16, 32 or
+/// 64. The mask of step i, from 0, marks each bit whose present content must end at a
+/// place with bit i zero; that is half of the bits, for the identity too. The masks
+/// after the last step are zero: grouping by them leaves a word as it is.
+///
+/// # Errors
+///
+/// [`Refusal::Width`], [`Refusal::Length`] and [`Refusal::Entry`].
+///
+/// ```
+/// use tigbayon::{group, route_groups, Refusal};
+///
+/// let turn_by_one = [7, 0, 1, 2, 3, 4, 5, 6];
+/// let masks = route_groups(8, &turn_by_one)?;
+/// let mut word = 0b1001_0110;
+/// for mask in masks {
+///     word = group(8, mask, word)?.word;
+/// }
+/// assert_eq!(word, 0b0010_1101);
+///
+/// // Place 1 takes bit 4, and place 4 bit 1.
+/// let masks = route_groups(8, &[0, 4, 2, 3, 1, 5, 6, 7])?;
+/// assert_eq!(masks, [0x47, 0x63, 0x55, 0, 0, 0]);
+///
+/// assert_eq!(route_groups(8, &[0, 1, 2]), Err(Refusal::Length));
+/// assert_eq!(route_groups(8, &[0, 0, 2, 3, 4, 5, 6, 7]), Err(Refusal::Entry));
+/// # Ok::<(), tigbayon::Refusal>(())
+/// ```
+pub fn route_groups(width: u32, permutation: &[u8]) -> Result<[u64; 6], Refusal> {
+    ffi::tb_route_groups(width, permutation).into()
 }

@@ -7,16 +7,18 @@ use crate::drawing::{svg, text, Drawing};
 use crate::failure::Failure;
 use crate::number::Base;
 
-/// The options of a command that finds controls.
-pub const CHOICES: [Choice; 3] = [
-    Choice::flag("--text", "draw the networks in characters"),
-    SVG,
-    Choice::valued(
-        "--bit",
-        "N",
-        "the bit to follow; else the one that goes farthest",
-    ),
-];
+/// The options of a command that draws the paths of bits, the first of which does this.
+pub const fn choices(text: &'static str) -> [Choice; 3] {
+    [
+        Choice::flag("--text", text),
+        SVG,
+        Choice::valued(
+            "--bit",
+            "N",
+            "the bit to follow; else the one that goes farthest",
+        ),
+    ]
+}
 
 /// The option of a drawing in a file.
 pub const SVG: Choice = Choice::valued(
@@ -37,7 +39,7 @@ const OUTPUT: &str = "-";
 /// The answer of a command that finds controls: these, or the drawings asked for.
 pub fn answer(given: &Given, drawing: Drawing) -> Result<Answer, Failure> {
     let drawing = Drawing {
-        bit: followed(given, &drawing)?,
+        bit: followed(given, drawing.width, drawing.bit)?,
         ..drawing
     };
     let forms = Forms {
@@ -87,18 +89,18 @@ where
     }
 }
 
-/// The bit to follow.
-fn followed(given: &Given, drawing: &Drawing) -> Result<u32, Failure> {
+/// The bit to follow: the one asked for, or else this one.
+pub fn followed(given: &Given, width: u32, otherwise: u32) -> Result<u32, Failure> {
     let Some(text) = given.option("--bit") else {
-        return Ok(drawing.bit);
+        return Ok(otherwise);
     };
     if !given.has("--svg") && !given.has("--text") {
         let problem = "--bit needs a drawing, by --svg or --text";
         return Err(Failure::argument(problem.to_string()));
     }
     let bit = text.number(Base::Decimal)?;
-    if bit >= drawing.width {
-        let expected = format!("a bit of the width, from 0 to {}", drawing.width - 1);
+    if bit >= width {
+        let expected = format!("a bit of the width, from 0 to {}", width - 1);
         return Err(unexpected("--bit", text.text(), &expected));
     }
     Ok(bit)

@@ -6,7 +6,7 @@ use crate::args::{unexpected, Given, Text};
 use crate::command::{Argument, Command, Example, MASK, WIDTH};
 use crate::drawing::{Caption, Drawing};
 use crate::failure::Failure;
-use crate::network::{farthest, Network};
+use crate::network::{paths, Network};
 use crate::number::{hex, Base};
 use std::slice;
 use tigbayon::{Controls, Refusal};
@@ -74,7 +74,7 @@ pub const DECODE: Command = Command {
     name: "decode",
     about: "finds the controls by which the networks scatter and gather",
     arguments: &[WIDTH, MASK],
-    options: &[&drawn::CHOICES],
+    options: &[&drawn::choices("draw the networks in characters")],
     notes: &[drawn::NOTES],
     refusals: &[Refusal::Width, Refusal::Above],
     examples: &[
@@ -136,7 +136,8 @@ fn decode(given: &Given) -> Result<Answer, Failure> {
     let mask: u64 = given.argument("MASK").number(Base::Hexadecimal)?;
     let decoded = tigbayon::decode(width, mask)?;
     let butterfly = Network::butterfly(width, decoded.butterfly);
-    let bit = farthest(slice::from_ref(&butterfly), mask.count_ones());
+    let there = paths(slice::from_ref(&butterfly), width);
+    let bit = there.farthest(mask.count_ones());
     let drawing = Drawing {
         caption: Caption {
             title: format!("Mask {} decoded at width {width}", hex(mask)),

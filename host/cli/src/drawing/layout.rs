@@ -1,7 +1,8 @@
 //! Where the parts of an SVG drawing lie.
 
 use super::Drawing;
-use crate::network::Stage;
+use crate::groups::Groups;
+use crate::network::Network;
 use std::ops::Range;
 
 /// What is left free around all.
@@ -19,6 +20,8 @@ const LABELS: [i32; 2] = [62, 104];
 const LEAD: i32 = 24;
 /// Between the networks, without a mask and with one.
 const MIDDLE: [i32; 2] = [56, 96];
+/// From the marks of a step to the band of its stage.
+const MARK_GAP: i32 = 12;
 
 /// Sizes that depend on how many places there are.
 #[derive(Clone, Copy, Debug, PartialEq)]
@@ -35,16 +38,26 @@ pub struct Scale {
     pub dot: f64,
 }
 
+/// The sizes of a mark.
+pub struct Mark {
+    /// Width and height.
+    pub size: (i32, i32),
+    /// The size of the number in it.
+    pub font: i32,
+}
+
 /// Where the parts of a drawing lie.
 pub struct Layout {
+    /// How many places there are.
+    pub width: u32,
     /// The sizes.
     pub scale: Scale,
     /// From the left to the right end of the wires.
     pub wires: Range<i32>,
     /// The stages, from left to right.
     pub stages: Vec<Range<i32>>,
-    /// The networks, from left to right.
-    pub networks: Vec<Range<i32>>,
+    /// The networks or the steps, from left to right.
+    pub parts: Vec<Range<i32>>,
     /// The highest and the lowest place.
     pub rows: Range<i32>,
     /// Width and height of the whole.
@@ -73,45 +86,83 @@ impl Scale {
         }
     }
 
-    /// How wide a stage is: the farther its switches reach, the wider.
-    fn span(self, stage: Stage) -> i32 {
-        let reach = stage.distance as i32 * self.row;
+    /// How wide a stage is: the more places its lines reach across, the wider.
+    fn span(self, reach: u32) -> i32 {
+        let reach = reach as i32 * self.row;
         44 + 6 * reach.isqrt()
+    }
+
+    /// The sizes of a mark.
+    pub fn mark(self) -> Mark {
+        let height = (self.row - 4).min(self.font + 8);
+        let font = self.font.min(height - 3);
+        let size = (font * 5 / 2, height);
+        Mark { size, font }
     }
 }
 
 impl Layout {
-    /// Lays out a drawing whose legend needs so much room.
+    /// Lays out a drawing of networks whose legend ends there.
     pub fn of(drawing: &Drawing, legend: i32) -> Self {
         let scale = Scale::of(drawing.width);
-        let middle = MIDDLE[usize::from(drawing.mask.is_some())];
+        let spans = |network: &Network| {
+            let stages = network.stages.iter();
+            stages.map(|stage| scale.span(stage.distance)).collect()
+        };
+        let parts = drawing.networks.iter().map(spans);
+        let between = MIDDLE[usize::from(drawing.mask.is_some())];
+        Layout::side_by_side(drawing.width, parts, [0, between], legend)
+    }
+
+    /// Lays out a drawing of groups whose legend ends there. A step has its marks
+    /// before its stage. Its mask has room below: the longer it is, the farther its
+    /// highest mark goes down.
+    pub fn of_groups(groups: &Groups, legend: i32) -> Self {
+        let scale = Scale::of(groups.width);
+        let before = scale.mark().size.0 + MARK_GAP + PAD;
+        let spans = |step| vec![scale.span(groups.paths.reach(step))];
+        let parts = (0..groups.masks.len()).map(spans);
+        Layout::side_by_side(groups.width, parts, [before, scale.gap], legend)
+    }
+
+    /// Lays out parts of so wide stages, with so much room before the stages of
+    /// each, and between two of them.
+    fn side_by_side(
+        width: u32,
+        spans: impl Iterator<Item = Vec<i32>>,
+        [before, between]: [i32; 2],
+        legend: i32,
+    ) -> Self {
+        let scale = Scale::of(width);
         let start = MARGIN + LABELS[0];
-        let mut x = start + LEAD - middle;
-        let (mut stages, mut networks) = (Vec::new(), Vec::new());
-        for network in &drawing.networks {
-            x += middle;
+        let mut x = start + LEAD - between;
+        let (mut stages, mut parts) = (Vec::new(), Vec::new());
+        for spans in spans {
+            x += between;
             let first = x;
-            for &stage in &network.stages {
-                let end = x + scale.span(stage);
+            x += before;
+            for span in spans {
+                let end = x + span;
                 stages.push(x..end);
                 x = end + scale.gap;
             }
             x -= scale.gap;
-            networks.push(first..x);
+            parts.push(first..x);
         }
         let wires = start..x + LEAD;
         let top = HEAD + scale.row / 2;
-        let rows = top..top + scale.row * (drawing.width as i32 - 1);
+        let rows = top..top + scale.row * (width as i32 - 1);
         let right = wires.end + LABELS[1];
         let size = (
             right.max(legend) + MARGIN,
             rows.end + scale.row / 2 + LEGEND + MARGIN,
         );
         Layout {
+            width,
             scale,
             wires,
             stages,
-            networks,
+            parts,
             rows,
             size,
         }
@@ -147,7 +198,7 @@ impl Layout {
 
     /// The middle between the networks, if there are two.
     pub fn middle(&self) -> Option<i32> {
-        match self.networks.as_slice() {
+        match self.parts.as_slice() {
             [one, other] => Some((one.end + other.start) / 2),
             _ => None,
         }

@@ -1,8 +1,8 @@
 //! The legend of SVG drawings.
 
 use super::canvas::{fill, stroke, Anchor, Canvas, ROUND};
-use super::palette::{INK, PASS, PATH, QUIET, SWAP};
-use super::{curves, pixels, Drawing};
+use super::palette::{INK, PASS, PATH, QUIET, SHEET, SWAP};
+use super::{curves, groups, pixels, Drawing};
 use crate::network::Switch;
 use crate::number::hex;
 
@@ -26,6 +26,7 @@ pub struct Entry {
 #[derive(Clone, Copy)]
 enum Sign {
     Switch { passes: bool },
+    Way { marked: bool },
     Path,
     Mark,
     Lit,
@@ -43,6 +44,17 @@ pub fn of(drawing: &Drawing, start: i32) -> Vec<Entry> {
     if let Some(mask) = drawing.mask {
         signs.push((Sign::Mark, format!("marked by {}", hex(mask))));
     }
+    entries(signs, start)
+}
+
+/// The entries for groups, from this place on.
+pub fn of_groups(drawing: &groups::Drawing, start: i32) -> Vec<Entry> {
+    let way = |marked, text: &str| (Sign::Way { marked }, text.to_string());
+    let signs = [
+        way(true, "marked in step i: to a place with bit i zero"),
+        way(false, "unmarked: with bit i one"),
+        (Sign::Path, drawing.groups.paths.journey(drawing.bit)),
+    ];
     entries(signs, start)
 }
 
@@ -64,9 +76,14 @@ fn entries(signs: impl IntoIterator<Item = (Sign, String)>, start: i32) -> Vec<E
     signs.into_iter().map(place).collect()
 }
 
+/// Where the last of them ends, about.
+pub fn end(entries: &[Entry]) -> i32 {
+    entries.last().map_or(0, Entry::end)
+}
+
 impl Entry {
     /// Where it ends, about.
-    pub fn end(&self) -> i32 {
+    fn end(&self) -> i32 {
         self.x + SIGN + 10 + LETTER * self.text.len() as i32
     }
 
@@ -74,6 +91,7 @@ impl Entry {
     pub fn draw(&self, canvas: &mut Canvas, y: i32) {
         match self.sign {
             Sign::Switch { passes } => self.switch(canvas, y, passes),
+            Sign::Way { marked } => self.way(canvas, y, marked),
             Sign::Path => {
                 let data = curves::line(&(self.x..self.x + SIGN), y, y);
                 canvas.path(&format!("{ROUND} {}", stroke(PATH, 4.0)), &data);
@@ -113,5 +131,16 @@ impl Entry {
             canvas.path(&stroke(colour, 2.0), &lines);
             canvas.path(&stroke(colour, 5.0), &curves::ends(switch, &x, height));
         });
+    }
+
+    fn way(&self, canvas: &mut Canvas, y: i32, marked: bool) {
+        let (inside, edge, colour) = match marked {
+            true => (INK, INK, SWAP),
+            false => (SHEET, PASS, PASS),
+        };
+        let data = curves::line(&(self.x..self.x + SIGN), y, y);
+        canvas.path(&format!("{ROUND} {}", stroke(colour, 2.0)), &data);
+        let look = format!(r#"{} stroke="{edge}""#, fill(inside));
+        canvas.pill((self.x + SIGN / 4 + 2, y), (SIGN / 2 + 4, 12), &look);
     }
 }

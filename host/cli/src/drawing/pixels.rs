@@ -64,8 +64,7 @@ fn characters(despeckled: &Despeckled, after: bool) -> String {
 /// Draws in SVG.
 pub fn svg(despeckled: &Despeckled) -> String {
     let entries = legend::of_pixels(MARGIN);
-    let end = entries.last().map_or(0, legend::Entry::end);
-    let layout = &Layout::of(despeckled, end);
+    let layout = &Layout::of(despeckled, legend::end(&entries));
     let caption = caption(despeckled);
     Canvas::draw(layout.size, &caption.title, |canvas| {
         canvas.sheet(layout.size);

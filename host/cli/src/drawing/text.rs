@@ -4,18 +4,14 @@
 //! either of its places; a swapping one is two discs, joined by a line across
 //! the places between. The followed bit's path is heavy.
 
-use super::{is_marked, Caption, Drawing};
+use super::grid::{mark, page, Grid, MARKED};
+use super::Drawing;
 use crate::network::{Stage, Switch};
 use crate::number::hex;
 use std::ops::Range;
 
 const PASS: char = '○';
 const SWAP: char = '●';
-const MARKED: char = '■';
-const UNMARKED: char = '□';
-
-/// The columns at the left, where the lines are labelled.
-const LABEL: usize = 9;
 
 /// Draws in characters.
 pub fn draw(drawing: &Drawing) -> String {
@@ -24,27 +20,23 @@ pub fn draw(drawing: &Drawing) -> String {
         if number > 0 {
             pen.between(drawing);
         }
-        let start = pen.columns.len();
+        let start = pen.grid.end();
         network.stages.iter().for_each(|&stage| pen.stage(stage));
-        pen.networks.push(start..pen.columns.len());
+        pen.networks.push(start..pen.grid.end());
     }
     pen.wires(1);
-    let Caption { title, detail } = &drawing.caption;
+    let sources = drawing.paths().sources();
     let parts = [
-        format!("{title}\n{detail}\n"),
         heading(drawing, &pen),
-        rows(drawing, &pen),
+        pen.grid.rows(&sources, pen.at),
         footing(drawing, &pen),
-        String::new(),
-        legend(drawing),
     ];
-    parts.map(|part| part + "\n").concat()
+    page(&drawing.caption, parts, legend(drawing))
 }
 
-/// Columns of characters, each from place 0 up, drawn from left to right.
+/// Draws from left to right.
 struct Pen {
-    width: u32,
-    columns: Vec<Vec<char>>,
+    grid: Grid,
     /// The place of the followed bit.
     at: u32,
     /// The columns of each stage, of each network, and of the mask.
@@ -56,8 +48,7 @@ struct Pen {
 impl Pen {
     fn new(drawing: &Drawing) -> Self {
         let mut pen = Pen {
-            width: drawing.width,
-            columns: Vec::new(),
+            grid: Grid::new(drawing.width),
             at: drawing.bit,
             stages: Vec::new(),
             networks: Vec::new(),
@@ -67,59 +58,52 @@ impl Pen {
         pen
     }
 
-    /// One column, of a character for each place.
-    fn column(&mut self, character: impl Fn(u32) -> char) {
-        self.columns.push((0..self.width).map(character).collect());
-    }
-
     /// Columns where each bit keeps its place.
     fn wires(&mut self, count: usize) {
         for _ in 0..count {
             let at = self.at;
-            self.column(|place| wire(place == at));
+            self.grid.column(|place| wire(place == at));
         }
     }
 
     /// What stands between two networks: the mask, if there is one.
     fn between(&mut self, drawing: &Drawing) {
-        let start = self.columns.len();
+        let start = self.grid.end();
         self.wires(2);
         if let Some(mask) = drawing.mask {
-            self.column(|place| match is_marked(mask, place) {
-                true => MARKED,
-                false => UNMARKED,
-            });
+            self.grid.column(|place| mark(mask, place));
             self.wires(2);
-            self.mask.push(start..self.columns.len());
+            self.mask.push(start..self.grid.end());
         }
     }
 
     /// A stage: a column of the switches that pass, then lanes of those that
     /// swap. It is as wide as its control word needs.
     fn stage(&mut self, stage: Stage) {
-        let start = self.columns.len();
+        let start = self.grid.end();
         let lanes = lanes(stage);
-        let pitch = if self.width > 16 { 1 } else { 2 };
+        let pitch = if stage.width > 16 { 1 } else { 2 };
         let drawn = 1 + pitch * lanes.len();
         let spare = (hex(stage.control.into()).len() + 2).saturating_sub(drawn + 2);
         self.wires(1 + spare / 2);
         let at = self.at;
-        self.column(|place| match stage.switch_at(place).passes {
-            true => PASS,
-            false => wire(place == at),
-        });
+        self.grid
+            .column(|place| match stage.switch_at(place).passes {
+                true => PASS,
+                false => wire(place == at),
+            });
         for lane in lanes {
             self.wires(pitch - 1);
             self.lane(&lane);
         }
         self.wires(1 + spare.div_ceil(2));
-        self.stages.push(start..self.columns.len());
+        self.stages.push(start..self.grid.end());
     }
 
     /// A column of switches that swap, none across another.
     fn lane(&mut self, lane: &[Switch]) {
         let at = self.at;
-        self.column(|place| {
+        self.grid.column(|place| {
             let across = |switch: &&Switch| (switch.low..=switch.high).contains(&place);
             match lane.iter().find(across) {
                 Some(switch) if switch.joins(place) => SWAP,
@@ -130,17 +114,6 @@ impl Pen {
         if let Some(switch) = lane.iter().find(|switch| switch.joins(at)) {
             self.at = switch.carry(at);
         }
-    }
-
-    /// Texts, each in the middle of its columns.
-    fn under(&self, texts: impl Iterator<Item = (Range<usize>, String)>) -> String {
-        let mut line = vec![' '; self.columns.len()];
-        for (columns, text) in texts {
-            let start = columns.start + (columns.len().saturating_sub(text.len())) / 2;
-            let end = (start + text.len()).min(line.len());
-            line.splice(start..end, text.chars());
-        }
-        String::from_iter(line)
     }
 }
 
@@ -184,21 +157,7 @@ fn heading(drawing: &Drawing, pen: &Pen) -> String {
         .iter()
         .cloned()
         .map(|columns| (columns, "mask".into()));
-    let line = pen.under(networks.chain(mask));
-    format!("{:>8} {line} place takes", "bit")
-}
-
-/// A line for each place, the highest first.
-fn rows(drawing: &Drawing, pen: &Pen) -> String {
-    let sources = drawing.sources();
-    let row = |place: u32| {
-        let line = pen.columns.iter().map(|column| column[place as usize]);
-        let line = String::from_iter(line);
-        let end = if place == pen.at { '▶' } else { ' ' };
-        let bit = sources[place as usize];
-        format!("{place:>8} {line}{end}{place:>5} bit {bit}")
-    };
-    Vec::from_iter((0..drawing.width).rev().map(row)).join("\n")
+    pen.grid.heading(networks.chain(mask))
 }
 
 /// The distance and the controls of each stage.
@@ -209,8 +168,8 @@ fn footing(drawing: &Drawing, pen: &Pen) -> String {
         [("distance", &distance), ("controls", &control)];
     let lines = lines.map(|(name, text)| {
         let texts = drawing.stages().map(text);
-        let line = pen.under(pen.stages.iter().cloned().zip(texts));
-        format!("{name:<LABEL$}{line}").trim_end().to_string()
+        pen.grid
+            .footing(name, pen.stages.iter().cloned().zip(texts))
     });
     lines.join("\n")
 }

@@ -1,10 +1,9 @@
 //! The words and numbers of SVG drawings.
 
 use super::canvas::{fill, stroke, Anchor, Canvas};
-use super::layout::{padded, Layout, Scale, MARGIN, PAD};
+use super::layout::{padded, Layout, Mark, MARGIN, PAD};
 use super::palette::{INK, PASS, PATH, QUIET, RULE, SANS, SHEET};
-use super::{curves, is_marked, Caption, Drawing};
-use crate::number::hex;
+use super::{curves, is_marked, Caption};
 use std::iter::zip;
 use std::ops::Range;
 
@@ -32,21 +31,26 @@ fn shortened(text: &str, room: usize) -> String {
     format!("{}, …", &text[..end])
 }
 
-/// The names of the networks over their stages, and what the labels name.
-pub fn headings(canvas: &mut Canvas, drawing: &Drawing, layout: &Layout) {
+/// The names of the parts over them, and what the labels name; where the mask stands, if
+/// there is one, too.
+pub fn headings(
+    canvas: &mut Canvas,
+    names: impl Iterator<Item = String>,
+    mask: Option<i32>,
+    layout: &Layout,
+) {
     let y = layout.band().start - 14;
-    for (network, x) in zip(&drawing.networks, &layout.networks) {
+    for (name, x) in zip(names, &layout.parts) {
         let middle = (x.start + x.end) / 2;
         let look = r#"font-size="13" font-weight="600""#;
-        canvas.text((middle, y), Anchor::Middle, look, network.name);
-        let half = 14 + 4 * network.name.len() as i32;
+        canvas.text((middle, y), Anchor::Middle, look, &name);
+        let half = 14 + 4 * name.len() as i32;
         let Range { start, end } = padded(x);
         let rules = [start..middle - half, middle + half..end];
         let rules = rules.map(|x| curves::line(&x, y - 4, y - 4));
         canvas.path(&stroke(RULE, 1.0), &rules.concat());
     }
     let [bit, place, takes] = layout.labels();
-    let mask = layout.middle().filter(|_| drawing.mask.is_some());
     let names = [
         (Some(bit), Anchor::End, "bit"),
         (mask, Anchor::Middle, "mask"),
@@ -65,13 +69,12 @@ fn baseline(y: i32, font: i32) -> i32 {
     y + font / 3 + 1
 }
 
-/// The labels of the places at both ends.
-pub fn labels(canvas: &mut Canvas, drawing: &Drawing, layout: &Layout) {
+/// The labels of the places at both ends; those of the followed bit stand out.
+pub fn labels(canvas: &mut Canvas, sources: &[u32], followed: u32, layout: &Layout) {
     let [left, right, takes] = layout.labels();
-    let sources = drawing.sources();
-    for (place, &source) in (0..).zip(&sources) {
+    for (place, &source) in (0..).zip(sources) {
         let y = baseline(layout.y(place), layout.scale.font);
-        let look = |bit: u32, otherwise: &str| match bit == drawing.bit {
+        let look = |bit: u32, otherwise: &str| match bit == followed {
             true => format!(r#"{} font-weight="700""#, fill(PATH)),
             false => fill(otherwise),
         };
@@ -82,18 +85,22 @@ pub fn labels(canvas: &mut Canvas, drawing: &Drawing, layout: &Layout) {
     }
 }
 
-/// The mask between the networks: a pill for each place, full if it is marked.
-pub fn marks(canvas: &mut Canvas, drawing: &Drawing, layout: &Layout) {
-    let (Some(x), Some(mask)) = (layout.middle(), drawing.mask) else {
-        return;
-    };
-    let path = drawing.path();
-    let Scale { row, font, .. } = layout.scale;
-    let height = (row - 4).min(font + 8);
-    let font = font.min(height - 3);
-    for place in 0..drawing.width {
-        let followed = path[path.len() / 2] == place;
-        let (class, inside, edge, ink) = match (is_marked(mask, place), followed) {
+/// The marks of a mask.
+pub struct Marks {
+    /// The mask.
+    pub mask: u64,
+    /// The number that stands at each place.
+    pub numbers: Vec<u32>,
+    /// The place of the followed bit.
+    pub followed: u32,
+}
+
+/// A pill for each place, full if it is marked, about this place from the left.
+pub fn marks(canvas: &mut Canvas, x: i32, marks: &Marks, layout: &Layout) {
+    let Mark { size, font } = layout.scale.mark();
+    for (place, number) in (0..).zip(&marks.numbers) {
+        let followed = marks.followed == place;
+        let (class, inside, edge, ink) = match (is_marked(marks.mask, place), followed) {
             (true, true) => ("marked", PATH, PATH, SHEET),
             (true, false) => ("marked", INK, INK, SHEET),
             (false, true) => ("unmarked", SHEET, PATH, PATH),
@@ -101,25 +108,37 @@ pub fn marks(canvas: &mut Canvas, drawing: &Drawing, layout: &Layout) {
         };
         let y = layout.y(place);
         let look = format!(r#"class="{class}" {} stroke="{edge}""#, fill(inside));
-        canvas.pill((x, y), (font * 5 / 2, height), &look);
+        canvas.pill((x, y), size, &look);
         let look = format!(r#"font-size="{font}" {}"#, fill(ink));
         let at = (x, baseline(y, font));
-        canvas.text(at, Anchor::Middle, &look, &place.to_string());
+        canvas.text(at, Anchor::Middle, &look, &number.to_string());
     }
 }
 
-/// The distance and the controls of each stage.
-pub fn footing(canvas: &mut Canvas, drawing: &Drawing, layout: &Layout) {
-    let y = layout.band().end;
-    let (above, below) = (y + 22, y + 42);
+/// A line of texts under the drawing.
+pub struct Line {
+    /// What they are.
+    pub name: &'static str,
+    /// Their colour.
+    pub colour: &'static str,
+    /// The texts from left to right.
+    pub texts: Vec<String>,
+}
+
+/// Lines below each other, with the texts of each under these ranges.
+pub fn footing(canvas: &mut Canvas, under: &[Range<i32>], lines: &[Line], layout: &Layout) {
+    let heights = (layout.band().end + 22..).step_by(20);
+    let lines = Vec::from_iter(zip(heights, lines));
     let named = format!(r#"font-family="{SANS}" font-size="12" {}"#, fill(QUIET));
-    let left = padded(&layout.stages[0]).start - PAD;
-    canvas.text((left, above), Anchor::End, &named, "distance");
-    canvas.text((left, below), Anchor::End, &named, "controls");
-    for (stage, x) in zip(drawing.stages(), &layout.stages) {
+    let left = padded(&under[0]).start - PAD;
+    for (y, line) in &lines {
+        canvas.text((left, *y), Anchor::End, &named, line.name);
+    }
+    for (number, x) in under.iter().enumerate() {
         let middle = (x.start + x.end) / 2;
-        let (distance, control) = (stage.distance.to_string(), hex(stage.control.into()));
-        canvas.text((middle, above), Anchor::Middle, &fill(QUIET), &distance);
-        canvas.text((middle, below), Anchor::Middle, &fill(INK), &control);
+        for (y, line) in &lines {
+            let (look, text) = (fill(line.colour), &line.texts[number]);
+            canvas.text((middle, *y), Anchor::Middle, &look, text);
+        }
     }
 }

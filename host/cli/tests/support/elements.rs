@@ -2,12 +2,14 @@
 
 use std::collections::HashMap;
 
-/// An element: its name, and what its attributes are.
+/// An element: its name, what its attributes are, and what it says.
 pub struct Element {
     /// Its name.
     pub name: String,
     /// Its attributes.
     pub attributes: HashMap<String, String>,
+    /// The text in it, before any other element.
+    pub text: String,
 }
 
 /// A point of a drawing.
@@ -22,6 +24,29 @@ impl Element {
     /// An attribute that is a number.
     pub fn number(&self, name: &str) -> i32 {
         self.attributes[name].parse().unwrap()
+    }
+
+    /// The lines of a path, each by its points from left to right; those that
+    /// only shape a curve are left out.
+    pub fn lines(&self) -> Vec<Vec<Point>> {
+        let mut lines: Vec<Vec<Point>> = Vec::new();
+        let data = &self.attributes["d"];
+        let starts = data.match_indices(char::is_alphabetic).map(|(at, _)| at);
+        let starts: Vec<usize> = starts.chain([data.len()]).collect();
+        for part in starts.windows(2).map(|ends| &data[ends[0]..ends[1]]) {
+            let numbers = part[1..].split(' ').map(|number| number.parse().unwrap());
+            let numbers: Vec<i32> = numbers.collect();
+            match (&part[..1], numbers.as_slice()) {
+                ("M", &[x, y]) => lines.push(vec![(x, y)]),
+                ("H", &[x]) => {
+                    let line = lines.last_mut().unwrap();
+                    line.push((x, line[line.len() - 1].1));
+                }
+                ("C", &[_, _, _, _, x, y]) => lines.last_mut().unwrap().push((x, y)),
+                _ => panic!("unknown part {part}"),
+            }
+        }
+        lines
     }
 }
 
@@ -45,7 +70,12 @@ pub fn elements(svg: &str) -> Vec<Element> {
             open.push(name.clone());
         }
         let attributes = attributes(rest);
-        elements.push(Element { name, attributes });
+        let text = after.trim().to_string();
+        elements.push(Element {
+            name,
+            attributes,
+            text,
+        });
     }
     assert!(open.is_empty(), "{open:?}");
     elements

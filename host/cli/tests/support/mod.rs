@@ -4,6 +4,8 @@
 
 pub mod drawn;
 pub mod elements;
+pub mod groups;
+pub mod wires;
 
 use std::fs;
 use std::path::{Path, PathBuf};

@@ -21,6 +21,8 @@ static void print_layouts(void)
            AT(TbControls1, stages));
     printf("TbControls2 %u %u: %u %u %u\n", LAYOUT(TbControls2), AT(TbControls2, refusal),
            AT(TbControls2, butterfly), AT(TbControls2, inverse));
+    printf("TbMasks %u %u: %u %u\n", LAYOUT(TbMasks), AT(TbMasks, refusal),
+           AT(TbMasks, masks));
     printf("TbPacked %u %u: %u %u %u\n", LAYOUT(TbPacked), AT(TbPacked, refusal),
            AT(TbPacked, count), AT(TbPacked, bits));
     printf("TbPlanes %u %u: %u\n", LAYOUT(TbPlanes), AT(TbPlanes, words));
@@ -68,13 +70,21 @@ static void print_controls2(const char *call, TbControls2 answer)
     printf("\n");
 }
 
+static void print_bytes(const uint8_t bytes[8])
+{
+    int i;
+    for (i = 0; i < 8; i++) {
+        printf(" %u", (unsigned)bytes[i]);
+    }
+    printf("\n");
+}
+
 static void print_routed(void)
 {
     const uint8_t reversal[8] = {7, 6, 5, 4, 3, 2, 1, 0};
     const uint8_t repeated[8] = {0, 0, 2, 3, 4, 5, 6, 7};
     const uint8_t one_switch[8] = {4, 1, 2, 3, 0, 5, 6, 7};
     uint8_t swap[8] = {0, 4, 2, 3, 1, 5, 6, 7};
-    int p;
 
     print_controls2("route", tb_route(8, reversal, 8));
     print_controls2("route", tb_route(8, swap, 8));
@@ -88,10 +98,7 @@ static void print_routed(void)
     print_controls1("route_butterfly", tb_route_butterfly(8, NULL, 0));
     print_controls1("route_inverse", tb_route_inverse(8, NULL, 0));
     printf("permutation");
-    for (p = 0; p < 8; p++) {
-        printf(" %u", (unsigned)swap[p]);
-    }
-    printf("\n");
+    print_bytes(swap);
 }
 
 static void print_words(const uint64_t *words, int count)
@@ -101,6 +108,39 @@ static void print_words(const uint64_t *words, int count)
         printf(" %" PRIx64, words[i]);
     }
     printf("\n");
+}
+
+static void print_masks(TbMasks answer)
+{
+    printf("route_groups %u:", (unsigned)answer.refusal);
+    print_words(answer.masks, 6);
+}
+
+static void print_groups(void)
+{
+    const uint8_t repeated[8] = {0, 0, 2, 3, 4, 5, 6, 7};
+    uint8_t rotation[8] = {1, 2, 3, 4, 5, 6, 7, 0};
+    uint8_t reversal[64];
+    const TbMasks answer = tb_route_groups(8, rotation, 8);
+    uint64_t word = 0xB6;
+    int i;
+
+    print_masks(answer);
+    for (i = 0; i < 3; i++) {
+        const TbGathered grouped = tb_group(8, answer.masks[i], word);
+        print_gathered("group", grouped);
+        word = grouped.word;
+    }
+    for (i = 0; i < 64; i++) {
+        reversal[i] = (uint8_t)(63 - i);
+    }
+    print_masks(tb_route_groups(64, reversal, 64));
+    print_masks(tb_route_groups(12, rotation, 8));
+    print_masks(tb_route_groups(8, rotation, 7));
+    print_masks(tb_route_groups(8, repeated, 8));
+    print_masks(tb_route_groups(8, NULL, 0));
+    printf("permutation");
+    print_bytes(rotation);
 }
 
 static void print_swaps(const char *call, TbPrepared answer)
@@ -271,7 +311,6 @@ static void print_unit(void)
     uint8_t list[8] = {8, 0, 0, 3, 3, 1, 2, 3};
     TbBank bank = fresh;
     TbBank other;
-    int i;
 
     printf("ends %d %d %d\n", TB_END_REFUSED, TB_END_DONE, TB_END_SPENT);
     printf("write %u\n", (unsigned)tb_write(&bank, 2, 0xB6));
@@ -291,10 +330,7 @@ static void print_unit(void)
     print_register(tb_read(&other, 16));
     printf("write %u\n", (unsigned)tb_write(&bank, 16, 7));
     printf("list:");
-    for (i = 0; i < 8; i++) {
-        printf(" %u", (unsigned)list[i]);
-    }
-    printf("\n");
+    print_bytes(list);
 }
 
 int main(void)
@@ -325,6 +361,7 @@ int main(void)
     print_carried("inverse", tb_inverse(8, decoded.inverse, 0xB6 & 0xAD));
     print_carried("inverse", tb_inverse(12, decoded.inverse, 0xB6));
     print_routed();
+    print_groups();
     print_prepared(decoded);
     print_packing();
     print_planes();

@@ -1,7 +1,7 @@
--- `bits::log_of` meets its contract: each test of the code is a test of the definition. Assumes nothing.
+-- `bits::log_to_64` meets its contract: each test of the code is a test of the definition. Assumes nothing.
 use borrow.Author.Tests.{eq-eqb, ne-eqb}
-use Rattle.bits.proofs.log_of.Statement.{statement}
-use Rattle.bits.proofs.log_of.Tie as tie
+use Rattle.bits.proofs.log_to_64.Statement.{statement}
+use Rattle.bits.proofs.log_to_64.Tie as tie
 
 returns : tie.Need-returns
 returns c = simp (eq-eqb _ _ (c .if1 .taken))
@@ -30,5 +30,5 @@ returns-5 c =
       ne-eqb _ _ (c .if4 .left),
     )
 
-pub log-of-spec : {M : Type 1} → statement M
-log-of-spec = tie.close (tie.spec returns returns-2 returns-3 returns-4 returns-5)
+pub log-to-64-spec : {M : Type 1} → statement M
+log-to-64-spec = tie.close (tie.spec returns returns-2 returns-3 returns-4 returns-5)

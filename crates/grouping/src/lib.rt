@@ -1,0 +1,130 @@
+// Permutations by groups: masks by which group, in turn, brings every bit to its place (paper 02, Req 08).
+ghost use mathlib.Core.Path.{_≡_};
+ghost use mathlib.Core.Bool.{cond};
+ghost use Prim.Native.Nat.{ℕ, _-_, _≤_, _<_};
+ghost use lib.Dec.{eqb};
+ghost use lib.ListN.{length, take};
+ghost use lib.Seq.{sets};
+ghost use Rattle.bits.specs.Bit.{bit};
+ghost use Rattle.routing.specs.Lists.{find, entry, ListPermutes};
+ghost use Rattle.grouping.specs.Groups.{regrouped};
+ghost use Rattle.grouping.specs.Calls.{groupsRefusal, groupsAnswer};
+ghost use Rattle.grouping.specs.Destinations.{passMask, passMasks, Halves, AtStep};
+
+// What `route_groups` answers: 0 and the masks of its steps, zeros after them, or the number of the refusal and zeros.
+#[repr(C)]
+pub struct Masks {
+    pub refusal: u8,
+    pub masks: [u64; 6],
+}
+
+// The lowest refusal of a call on a permutation by groups; 0 if it is one of a width up to 64.
+fn refusal(width: u32, entries: &[u8]) -> u8
+    ensures { λ r. ⌜ r ≡ groupsRefusal width (now (entries .entry)) ⌝ }
+{
+    if bits::log_to_64(width) == 0 {
+        return bits::WIDTH;
+    }
+    permute::entries_refusal(width, entries)
+}
+
+// internal: a permutation of at most 64 places. For each bit its destination, the place whose entry names it.
+fn take_destinations(to: &mut [u8; 64], entries: &[u8])
+    requires { ⌜ (length (now entries) ≤ 64) × (ListPermutes (length (now entries)) (now entries)) × (length (now to) ≡ 64) ⌝ }
+    ensures { λ _. ⌜ (length (now (to .exit)) ≡ 64)
+        × ((x : ℕ) → x < length (now (entries .entry)) → entry (now (to .exit)) x ≡ find x (now (entries .entry))) ⌝ }
+{
+    let mut place: usize = 0;
+    while place < entries.len() {
+        let content = entries[place] as usize;
+        to[content] = place as u8;
+        place += 1;
+    }
+}
+
+// internal: a bit of a byte. 1 if it is zero, else 0.
+fn zero_at(destination: u8, step: usize) -> usize
+    requires { ⌜ step < 8 ⌝ }
+    ensures { λ r. ⌜ r ≡ 1 - bit destination step ⌝ }
+{
+    1 - ((destination as usize) >> step) % 2
+}
+
+// Where a content goes: a marked one to `low`, any other to `above`.
+fn place_of(marked: usize, low: usize, above: usize) -> usize
+    ensures { λ r. ⌜ r ≡ cond (eqb marked 1) low above ⌝ }
+{
+    if marked == 1 {
+        return low;
+    }
+    above
+}
+
+// internal: the destinations of the contents of `width` places, half of which have bit `step` zero. These are marked and go to the lower
+// half of the places, the others to the upper half, either in their order, in one pass. The mask that marks them.
+fn group_pass(from: &[u8; 64], into: &mut [u8; 64], width: usize, step: usize) -> u64
+    requires { ⌜ (width ≤ 64) × (step < 6) × (length (now into) ≡ 64) × (Halves width step (take width (now from))) ⌝ }
+    ensures { λ r. ⌜ (r ≡ passMask width step (take width (now (from .entry)))) × (length (now (into .exit)) ≡ 64)
+        × (take width (now (into .exit)) ≡ regrouped width r (take width (now (from .entry)))) ⌝ }
+{
+    let half = width / 2;
+    let mut mask: usize = 0;
+    let mut low: usize = 0;
+    let mut place: usize = 0;
+    while place < width {
+        let destination = from[place];
+        let marked = zero_at(destination, step);
+        let above = half + (place - low);
+        into[place_of(marked, low, above)] = destination;
+        mask |= marked << place;
+        low += marked;
+        place += 1;
+    }
+    mask as u64
+}
+
+// internal: the destinations of the contents before step `step`, a permutation of 2^log places. The masks from this step on, each by a pass
+// from one array into the other; the next step reads what this one wrote.
+fn fill_masks(
+    from: &mut [u8; 64],
+    into: &mut [u8; 64],
+    masks: &mut [u64; 6],
+    log: usize,
+    width: usize,
+    step: usize,
+)
+    requires { ⌜ AtStep log width step (now from) (now into) (now masks) ⌝ }
+    ensures { λ _. ⌜ now (masks .exit) ≡ sets (now (masks .entry)) step (passMasks width (log - step) step (take width (now (from .entry)))) ⌝ }
+{
+    if step == log {
+        return;
+    }
+    masks[step] = group_pass(from, into, width, step);
+    fill_masks(into, from, masks, log, width, step + 1)
+}
+
+// The masks of as many steps as the logarithm of the width: a word grouped by them in turn is permuted. Entry p names the bit that place p
+// takes.
+pub fn route_groups(width: u32, entries: &[u8]) -> Masks
+    ensures { λ r. ⌜ r ≡ groupsAnswer width (now (entries .entry)) ⌝ }
+{
+    let mut answer = Masks {
+        refusal: refusal(width, entries),
+        masks: [0u64; 6],
+    };
+    if answer.refusal != 0 {
+        return answer;
+    }
+    let mut from = [0u8; 64];
+    let mut into = [0u8; 64];
+    take_destinations(&mut from, entries);
+    fill_masks(
+        &mut from,
+        &mut into,
+        &mut answer.masks,
+        bits::log_to_64(width) as usize,
+        entries.len(),
+        0,
+    );
+    answer
+}

@@ -1,0 +1,108 @@
+//! Routing by groups, at width 64 and at width 8, on random permutations.
+
+use crate::contest::Contest;
+use crate::masks::{compress_by, moves};
+use crate::twin::{log_of, refusal};
+use crate::WIDTH;
+use conformance::samples::random_permutation;
+use std::array;
+use tigbayon::{tb_route_groups, TbMasks};
+
+/// A byte for each place.
+type Places = [u8; 64];
+
+/// Beside the same loops, and beside the bits of destinations in words. At width 8 for
+/// the record: there the compiler of the loops writes their steps out one by one.
+pub fn route_groups(name: &str) {
+    beside_loops(WIDTH)
+        .within(1.2)
+        .peer("bits of destinations in words", |permutation| {
+            routed(WIDTH, permutation, by_words)
+        })
+        .print(name);
+    beside_loops(8).print(&format!("{name}, width 8"));
+}
+
+fn beside_loops(width: u32) -> Contest<Vec<u8>, TbMasks> {
+    Contest::of(
+        move |random| random_permutation(random, width),
+        move |permutation| tb_route_groups(width, permutation),
+    )
+    .peer("the same loops, unproved", move |permutation| {
+        routed(width, permutation, by_passes)
+    })
+}
+
+/// What routing answers, or the refusal and zeros.
+fn routed(width: u32, entries: &[u8], masks: impl Fn(usize, &[u8]) -> [u64; 6]) -> TbMasks {
+    let refusal = refusal(width, entries);
+    let masks = match refusal {
+        0 => masks(log_of(width), entries),
+        _ => [0; 6],
+    };
+    TbMasks { refusal, masks }
+}
+
+/// As the library does it: crate grouping's code, line by line.
+fn by_passes(log: usize, entries: &[u8]) -> [u64; 6] {
+    let mut masks = [0; 6];
+    let (mut from, mut into) = ([0; 64], [0; 64]);
+    for (place, &content) in entries.iter().enumerate() {
+        from[usize::from(content)] = place as u8;
+    }
+    fill_masks(&mut from, &mut into, &mut masks, log, entries.len(), 0);
+    masks
+}
+
+fn fill_masks(
+    from: &mut Places,
+    into: &mut Places,
+    masks: &mut [u64; 6],
+    log: usize,
+    width: usize,
+    step: usize,
+) {
+    if step == log {
+        return;
+    }
+    masks[step] = group_pass(from, into, width, step);
+    fill_masks(into, from, masks, log, width, step + 1);
+}
+
+fn group_pass(from: &Places, into: &mut Places, width: usize, step: usize) -> u64 {
+    let half = width / 2;
+    let (mut mask, mut low) = (0, 0);
+    for (place, &destination) in from[..width].iter().enumerate() {
+        let marked = 1 - (usize::from(destination) >> step) % 2;
+        let above = half + (place - low);
+        into[if marked == 1 { low } else { above }] = destination;
+        mask |= marked << place;
+        low += marked;
+    }
+    mask as u64
+}
+
+/// Bit i of every content's destination in word i, each word grouped by Hacker's
+/// Delight's compress, whose moves are made once a mask.
+fn by_words(log: usize, entries: &[u8]) -> [u64; 6] {
+    let width = entries.len();
+    let ones = u64::MAX >> (64 - width);
+    let mut destinations: [u64; 6] = array::from_fn(|i| {
+        let places = (0..width).zip(entries);
+        places.fold(0, |word, (place, content)| {
+            word | (place as u64 >> i & 1) << content
+        })
+    });
+    let mut masks = [0; 6];
+    for step in 0..log {
+        let unmarked = destinations[step];
+        let mask = !unmarked & ones;
+        let (down, up) = (moves(mask), moves(unmarked));
+        for word in &mut destinations[step + 1..log] {
+            *word =
+                compress_by(&down, mask, *word) | compress_by(&up, unmarked, *word) << (width / 2);
+        }
+        masks[step] = mask;
+    }
+    masks
+}
