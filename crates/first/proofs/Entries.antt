@@ -19,7 +19,7 @@ pub record PlacedBelow (k : ℕ) (entries to from : List ℕ) : Type 0 where
   pub to-long : length to ≡ 64
   pub from-long : length from ≡ 64
   pub to-is : (p : ℕ) → p < k → getD to p 0 ≡ entry entries p
-  pub from-is : LaidBelow k entries from
+  pub from-is : LaidBelow k entries (λ p. p) (λ x. getD from x 0)
 
 module _ (entries : List ℕ) (fits : length entries ≤ 64) (is : ListPermutes (length entries) entries) where
   abbrev w : ℕ
@@ -39,7 +39,11 @@ module _ (entries : List ℕ) (fits : length entries ≤ 64) (is : ListPermutes 
         to-long = length-set to k (entry entries k) ∙ b .to-long;
         from-long = length-set from x k ∙ b .from-long;
         to-is = λ p h. to-go p h (decLt p k);
-        from-is = laid-more w entries is k from room (omega (arith, b .from-long)) (b .from-is) q;
+        from-is =
+            rw q
+            (laid-more w entries is k (λ p. p) (λ x. getD from x 0) (b .from-is) (λ x. getD (store from (entry entries k) k) x 0) room
+            (getD-set-same from (entry entries k) k 0 (omega (arith, is .small k room, b .from-long)))
+            (λ x n. getD-set-other from (entry entries k) x k 0 n));
       }
     where
       room : k < w
@@ -69,4 +73,4 @@ module _ (entries : List ℕ) (fits : length entries ≤ 64) (is : ListPermutes 
       perm =
           let π = list-permutes w entries is in
           permutes-cong w (entry entries) (λ x. find x entries) (placeIn to 0) (placeIn from 0) π to-same
-          (λ x h. at-base from x ∙ laid-all w entries is k from l (b .from-is) x h)
+          (λ x h. at-base from x ∙ laid-all w entries is k (λ p. p) (λ x. getD from x 0) (b .from-is) l x h)

@@ -15,7 +15,7 @@ use Rattle.network.specs.Stage.{switchOf}
 use Rattle.network.proofs.Index.{on-places, placeAt, block-lt, switch-at}
 use Rattle.routing.specs.Lists.{entry, ListPermutes}
 use Rattle.routing.proofs.Finite.{pigeonhole}
-use Rattle.grouping.specs.Destinations.{passMask, Halves}
+use Rattle.grouping.specs.Destinations.{passMask, Half}
 use Rattle.grouping.proofs.Sorting.{mask-bit}
 
 -- two places of one switch and one half are one place
@@ -75,10 +75,10 @@ module _ (i k w : ℕ) (ds : List ℕ) (blocks : w ≡ k * (2 * 2 ^ i)) (is : Li
             absurd (apart (c .low) (c .high) (c .ordered) (omega (arith, c .within)) (c .same))
         by-cases (no n) = omega arith
 
-  half-marked : Halves w i ds
+  half-marked : Half w (passMask w i ds)
   half-marked = omega (arith, blocks, few 1, few 0, places-all m w)
 
-pub pass-halves : (L i : ℕ) (ds : List ℕ) → i < L → ListPermutes (2 ^ L) ds → Halves (2 ^ L) i ds
+pub pass-halves : (L i : ℕ) (ds : List ℕ) → i < L → ListPermutes (2 ^ L) ds → Half (2 ^ L) (passMask (2 ^ L) i ds)
 pass-halves L i ds h is =
     let e : L ≡ (L - suc i) + suc i = omega arith in
     half-marked i (2 ^ (L - suc i)) (2 ^ L) ds

@@ -1,6 +1,9 @@
 pub mod Regrouping
 pub mod Sorting
 pub mod Halving
+pub mod StoredBits
+pub mod Dealing
+pub mod Taking
 pub mod Passing
 pub mod StepsLeft
 pub mod Arrival

@@ -27,7 +27,7 @@ module _ (w i : ℕ) (ds : List ℕ) where
   mask-lt = ofBits-lt w (λ p. 1 - bit (entry ds p) i)
 
 -- one bit more
-pub low-bits : (d i : ℕ) → d % 2 ^ suc i ≡ bit d i * 2 ^ i + d % 2 ^ i
+low-bits : (d i : ℕ) → d % 2 ^ suc i ≡ bit d i * 2 ^ i + d % 2 ^ i
 unfolding bit
 low-bits d i = let e : suc i ≡ 1 + i = omega arith in ap (λ (n : ℕ). d % 2 ^ n) e ∙ mod-pow-add d 1 i
 

@@ -10,26 +10,30 @@ use Rattle.bits.proofs.UpTo.{sets-between}
 use Rattle.network.specs.Calls.{six}
 use Rattle.routing.specs.Lists.{ListPermutes}
 use Rattle.grouping.specs.Groups.{regrouped}
-use Rattle.grouping.specs.Destinations.{passMask, passMasks, Halves}
+use Rattle.grouping.specs.Destinations.{passMask, passMasks, Half}
 use Rattle.grouping.proofs.Regrouping.{regrouped-permutes}
 use Rattle.grouping.proofs.Halving.{pass-halves}
 
-module _ (w log step : ℕ) (ds : List ℕ) where
-  pub step-halves : w ≡ 2 ^ log → step < log → ListPermutes w ds → Halves w step ds
-  step-halves e h is =
-      subst (λ (v : ℕ). Halves v step ds) (sym e) (pass-halves log step ds h (subst (λ (v : ℕ). ListPermutes v ds) e is))
+module _ (w log step : ℕ) (ds : List ℕ) {m : ℕ} (q : m ≡ passMask w step ds) where
+  pub step-half : w ≡ 2 ^ log → step < log → ListPermutes w ds → Half w m
+  step-half e h is =
+      rw q (subst (λ (v : ℕ). Half v (passMask v step ds)) (sym e) (pass-halves log step ds h (subst (λ (v : ℕ). ListPermutes v ds) e is)))
 
-  -- no step is left
-  pub none-left : (masks : List ℕ) → step ≡ log → masks ≡ sets masks step (passMasks w (log - step) step ds)
+  -- the last step
+  pub last-step : (masks : List ℕ) → step + 1 ≡ log → set masks step m ≡ sets masks step (passMasks w (log - step) step ds)
   unfolding passMasks
-  none-left masks e = let z : log - step ≡ zero = omega arith in rw z
+  last-step masks e = let z : log - step ≡ suc zero = omega arith in rw (z, q)
 
-  module _ {m : ℕ} {next : List ℕ} (q : m ≡ passMask w step ds) (n : next ≡ regrouped w m ds) where
+  module _ {next : List ℕ} (n : next ≡ regrouped w m ds) where
     pub step-permutes : ListPermutes w ds → ListPermutes w next
     step-permutes is = rw n (regrouped-permutes w m ds is)
 
+    pub step-marks : {r : ℕ} → r ≡ passMask w (step + 1) (regrouped w m ds) → r ≡ passMask w (step + 1) next
+    step-marks e = rw n e
+
     -- the mask of this step, and those of the steps after it
-    pub steps-left : (masks : List ℕ) {out : List ℕ} → step < log → out ≡ sets (set masks step m) (step + 1) (passMasks w (log - (step + 1)) (step + 1) next)
+    pub steps-left : (masks : List ℕ) {out : List ℕ} → step < log
+        → out ≡ sets (set masks step m) (step + 1) (passMasks w (log - (step + 1)) (step + 1) next)
         → out ≡ sets masks step (passMasks w (log - step) step ds)
     unfolding passMasks
     steps-left masks h e =

@@ -9,7 +9,7 @@ ghost use Rattle.bits.specs.Bit.{bit};
 ghost use Rattle.routing.specs.Lists.{find, entry, ListPermutes};
 ghost use Rattle.grouping.specs.Groups.{regrouped};
 ghost use Rattle.grouping.specs.Calls.{groupsRefusal, groupsAnswer};
-ghost use Rattle.grouping.specs.Destinations.{passMask, passMasks, Halves, AtStep};
+ghost use Rattle.grouping.specs.Destinations.{passMask, passMasks, Half, AtStep};
 
 // What `route_groups` answers: 0 and the masks of its steps, zeros after them, or the number of the refusal and zeros.
 #[repr(C)]
@@ -28,30 +28,34 @@ fn refusal(width: u32, entries: &[u8]) -> u8
     permute::entries_refusal(width, entries)
 }
 
-// internal: a permutation of at most 64 places. For each bit its destination, the place whose entry names it.
-fn take_destinations(to: &mut [u8; 64], entries: &[u8])
-    requires { ⌜ (length (now entries) ≤ 64) × (ListPermutes (length (now entries)) (now entries)) × (length (now to) ≡ 64) ⌝ }
-    ensures { λ _. ⌜ (length (now (to .exit)) ≡ 64)
-        × ((x : ℕ) → x < length (now (entries .entry)) → entry (now (to .exit)) x ≡ find x (now (entries .entry))) ⌝ }
+// internal: the index of a bit of a byte. 1 if the bit is zero, else 0.
+fn zero_at(destination: u8, index: usize) -> u64
+    requires { ⌜ index < 8 ⌝ }
+    ensures { λ r. ⌜ r ≡ 1 - bit destination index ⌝ }
 {
+    1 - ((destination as u64) >> index) % 2
+}
+
+// internal: a permutation of at most 64 places. For each bit its destination, the place whose entry names it. The mask of step 0.
+fn take_destinations(to: &mut [u8; 64], entries: &[u8]) -> u64
+    requires { ⌜ (length (now entries) ≤ 64) × (ListPermutes (length (now entries)) (now entries)) × (length (now to) ≡ 64) ⌝ }
+    ensures { λ r. ⌜ (length (now (to .exit)) ≡ 64)
+        × ((x : ℕ) → x < length (now (entries .entry)) → entry (now (to .exit)) x ≡ find x (now (entries .entry)))
+        × (r ≡ passMask (length (now (entries .entry))) 0 (take (length (now (entries .entry))) (now (to .exit)))) ⌝ }
+{
+    let mut mask: u64 = 0;
     let mut place: usize = 0;
     while place < entries.len() {
         let content = entries[place] as usize;
         to[content] = place as u8;
+        mask |= zero_at(place as u8, 0) << content;
         place += 1;
     }
-}
-
-// internal: a bit of a byte. 1 if it is zero, else 0.
-fn zero_at(destination: u8, step: usize) -> usize
-    requires { ⌜ step < 8 ⌝ }
-    ensures { λ r. ⌜ r ≡ 1 - bit destination step ⌝ }
-{
-    1 - ((destination as usize) >> step) % 2
+    mask
 }
 
 // Where a content goes: a marked one to `low`, any other to `above`.
-fn place_of(marked: usize, low: usize, above: usize) -> usize
+fn place_of(marked: u64, low: usize, above: usize) -> usize
     ensures { λ r. ⌜ r ≡ cond (eqb marked 1) low above ⌝ }
 {
     if marked == 1 {
@@ -60,31 +64,33 @@ fn place_of(marked: usize, low: usize, above: usize) -> usize
     above
 }
 
-// internal: the destinations of the contents of `width` places, half of which have bit `step` zero. These are marked and go to the lower
-// half of the places, the others to the upper half, either in their order, in one pass. The mask that marks them.
-fn group_pass(from: &[u8; 64], into: &mut [u8; 64], width: usize, step: usize) -> u64
-    requires { ⌜ (width ≤ 64) × (step < 6) × (length (now into) ≡ 64) × (Halves width step (take width (now from))) ⌝ }
-    ensures { λ r. ⌜ (r ≡ passMask width step (take width (now (from .entry)))) × (length (now (into .exit)) ≡ 64)
-        × (take width (now (into .exit)) ≡ regrouped width r (take width (now (from .entry)))) ⌝ }
+// internal: the destinations of the contents of `width` places, and a mask that marks half of these. In one pass the marked ones go to the
+// lower half of the places, the others to the upper half, each in their order. The mask of what this leaves, by bit `index`.
+fn group_pass(from: &[u8; 64], into: &mut [u8; 64], width: usize, mask: u64, index: usize) -> u64
+    requires { ⌜ (width ≤ 64) × (index < 8) × (length (now into) ≡ 64) × (Half width mask) ⌝ }
+    ensures { λ r. ⌜ (length (now (into .exit)) ≡ 64)
+        × (take width (now (into .exit)) ≡ regrouped width mask (take width (now (from .entry))))
+        × (r ≡ passMask width index (regrouped width mask (take width (now (from .entry))))) ⌝ }
 {
     let half = width / 2;
-    let mut mask: usize = 0;
+    let mut next: u64 = 0;
     let mut low: usize = 0;
     let mut place: usize = 0;
     while place < width {
         let destination = from[place];
-        let marked = zero_at(destination, step);
+        let marked = (mask >> place) % 2;
         let above = half + (place - low);
-        into[place_of(marked, low, above)] = destination;
-        mask |= marked << place;
-        low += marked;
+        let at = place_of(marked, low, above);
+        into[at] = destination;
+        next |= zero_at(destination, index) << at;
+        low += marked as usize;
         place += 1;
     }
-    mask as u64
+    next
 }
 
-// internal: the destinations of the contents before step `step`, a permutation of 2^log places. The masks from this step on, each by a pass
-// from one array into the other; the next step reads what this one wrote.
+// internal: the destinations of the contents before step `step`, a permutation of 2^log places, and the mask of this step. The masks from it
+// on: each step but the last is a pass from one array into the other, and the next step reads what this one wrote.
 fn fill_masks(
     from: &mut [u8; 64],
     into: &mut [u8; 64],
@@ -92,15 +98,18 @@ fn fill_masks(
     log: usize,
     width: usize,
     step: usize,
+    mask: u64,
 )
-    requires { ⌜ AtStep log width step (now from) (now into) (now masks) ⌝ }
+    requires { ⌜ AtStep log width step mask (now from) (now into) (now masks) ⌝ }
     ensures { λ _. ⌜ now (masks .exit) ≡ sets (now (masks .entry)) step (passMasks width (log - step) step (take width (now (from .entry)))) ⌝ }
 {
-    if step == log {
+    masks[step] = mask;
+    let after = step + 1;
+    if after == log {
         return;
     }
-    masks[step] = group_pass(from, into, width, step);
-    fill_masks(into, from, masks, log, width, step + 1)
+    let next = group_pass(from, into, width, mask, after);
+    fill_masks(into, from, masks, log, width, after, next)
 }
 
 // The masks of as many steps as the logarithm of the width: a word grouped by them in turn is permuted. Entry p names the bit that place p
@@ -117,7 +126,7 @@ pub fn route_groups(width: u32, entries: &[u8]) -> Masks
     }
     let mut from = [0u8; 64];
     let mut into = [0u8; 64];
-    take_destinations(&mut from, entries);
+    let mask = take_destinations(&mut from, entries);
     fill_masks(
         &mut from,
         &mut into,
@@ -125,6 +134,7 @@ pub fn route_groups(width: u32, entries: &[u8]) -> Masks
         bits::log_to_64(width) as usize,
         entries.len(),
         0,
+        mask,
     );
     answer
 }

@@ -47,11 +47,23 @@ fn routed(width: u32, entries: &[u8], masks: impl Fn(usize, &[u8]) -> [u64; 6]) 
 fn by_passes(log: usize, entries: &[u8]) -> [u64; 6] {
     let mut masks = [0; 6];
     let (mut from, mut into) = ([0; 64], [0; 64]);
-    for (place, &content) in entries.iter().enumerate() {
-        from[usize::from(content)] = place as u8;
-    }
-    fill_masks(&mut from, &mut into, &mut masks, log, entries.len(), 0);
+    let mask = take_destinations(&mut from, entries);
+    let width = entries.len();
+    fill_masks(&mut from, &mut into, &mut masks, log, width, 0, mask);
     masks
+}
+
+fn zero_at(destination: u8, index: usize) -> u64 {
+    1 - (u64::from(destination) >> index) % 2
+}
+
+fn take_destinations(to: &mut Places, entries: &[u8]) -> u64 {
+    let mut mask = 0;
+    for (place, &content) in (0..).zip(entries) {
+        to[usize::from(content)] = place;
+        mask |= zero_at(place, 0) << content;
+    }
+    mask
 }
 
 fn fill_masks(
@@ -61,25 +73,29 @@ fn fill_masks(
     log: usize,
     width: usize,
     step: usize,
+    mask: u64,
 ) {
-    if step == log {
+    masks[step] = mask;
+    let after = step + 1;
+    if after == log {
         return;
     }
-    masks[step] = group_pass(from, into, width, step);
-    fill_masks(into, from, masks, log, width, step + 1);
+    let next = group_pass(from, into, width, mask, after);
+    fill_masks(into, from, masks, log, width, after, next);
 }
 
-fn group_pass(from: &Places, into: &mut Places, width: usize, step: usize) -> u64 {
+fn group_pass(from: &Places, into: &mut Places, width: usize, mask: u64, index: usize) -> u64 {
     let half = width / 2;
-    let (mut mask, mut low) = (0, 0);
+    let (mut next, mut low) = (0, 0);
     for (place, &destination) in from[..width].iter().enumerate() {
-        let marked = 1 - (usize::from(destination) >> step) % 2;
+        let marked = (mask >> place) % 2;
         let above = half + (place - low);
-        into[if marked == 1 { low } else { above }] = destination;
-        mask |= marked << place;
-        low += marked;
+        let at = if marked == 1 { low } else { above };
+        into[at] = destination;
+        next |= zero_at(destination, index) << at;
+        low += marked as usize;
     }
-    mask as u64
+    next
 }
 
 /// Bit i of every content's destination in word i, each word grouped by Hacker's

@@ -44,6 +44,7 @@ fill-masks-requires c κs =
       into-long = refl;
       masks-long = refl;
       permutes = s .3;
+      marks = from .ensures .2;
     }
 
 returns-2 : tie.Need-returns-2
