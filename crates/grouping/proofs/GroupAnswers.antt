@@ -13,8 +13,8 @@ use Rattle.bits.specs.Refusal.{logTo64, accepted, acceptedTo64, lowest, Answers
 use Rattle.bits.proofs.Refusals.{log-width-64, answers-lowest, every-answer}
 use Rattle.network.specs.Calls.{six}
 use Rattle.permute.specs.Calls.{entriesConditions}
-use Rattle.permute.proofs.Names.{names-permutes}
-use Rattle.permute.proofs.PermutationAnswers.{entries-within}
+use Rattle.permute.proofs.Names.{names-permutes, permutes-names}
+use Rattle.permute.proofs.PermutationAnswers.{entries-refusal-by, entries-within}
 use Rattle.routing.specs.Lists.{find, entry, ListPermutes}
 use Rattle.grouping.specs.declared.Masks.{Masks}
 use Rattle.grouping.specs.Groups.{groupMasks}
@@ -52,6 +52,10 @@ module _ (w : ℕ) (es : List ℕ) where
   unfolding groupsAnswer
   groups-number =
       every-answer (λ (a : Masks). a .refusal ≡ groupsRefusal w es) (groupsRefusal w es) (λ n. record { refusal = n; masks = six [] }) _ (λ z. refl) sym
+
+  -- every permutation of these widths is accepted
+  pub groups-accepts : acceptedTo64 w ≡ true → ListPermutes w es → groupsAnswer w es .refusal ≡ 0
+  groups-accepts a p = groups-number ∙ groups-refusal-by a ∙ entries-refusal-by w es (eq-eqb (length es) w (p .long)) (permutes-names w es p)
 
   module _ {n : ℕ} (e : n ≡ groupsRefusal w es) where
     pub groups-refused : (n ≡ 0 → ⊥) → _≡_ {A = Masks} (record { refusal = n; masks = six [] }) (groupsAnswer w es)

@@ -19,7 +19,7 @@ use Rattle.permute.proofs.FirstWords.{in-use}
 use Rattle.routing.specs.Lists.{find, ListPermutes}
 use Rattle.grouping.specs.declared.Masks.{Masks}
 use Rattle.grouping.specs.Groups.{regrouped, stepMask, masksFrom, groupMasks, groupInTurn}
-use Rattle.grouping.specs.Calls.{groupsRefusal, groupsAnswer, CallsGroup}
+use Rattle.grouping.specs.Calls.{groupsRefusal, groupsAnswer, CallsGroup, AnswersGroups}
 use Rattle.grouping.specs.Destinations.{passMask, passMasks}
 use Rattle.grouping.proofs.Regrouping.{regrouped-permutes}
 use Rattle.grouping.proofs.Sorting.{mask-lt}
@@ -107,6 +107,9 @@ module _ (w : ℕ) (es : List ℕ) (e : groupsAnswer w es .refusal ≡ 0) where
       in
       subst (λ (m : ℕ). rank m w + rank m w ≡ w) (sym m)
       (subst (λ (v : ℕ). rank (getD (groupMasks L es) i 0) v + rank (getD (groupMasks L es) i 0) v ≡ v) (sym width) (masks-half L es is i h))
+
+pub answers-groups : (w : ℕ) (es : List ℕ) {r : Masks} → r ≡ groupsAnswer w es → AnswersGroups w es r
+answers-groups w es e = subst (AnswersGroups w es) (sym e) (λ z x h. calls-groups-permute w es z x h)
 
 -- Outside vectors, by hand with the places and contents written out: the identity, the reversal, that of row 8, and a turn by one place, which is not its
 -- own inverse.

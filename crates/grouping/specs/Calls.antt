@@ -2,8 +2,10 @@
 use mathlib.Core.Path.{_≡_}
 use mathlib.Core.Bool.{Bool, not, cond}
 use mathlib.Core.List.{List, [], _∷_}
-use Prim.Native.Nat.{ℕ}
+use Prim.Native.Nat.{ℕ, _^_, _<_}
 use lib.Dec.{eqb}
+use lib.ListN.{take}
+use Rattle.bits.specs.Bit.{pick}
 use Rattle.bits.specs.Refusal.{logTo64, acceptedTo64, lowest}
 use Rattle.gather.specs.Gather.{groupOf, answerOf}
 use Rattle.network.specs.Calls.{six}
@@ -28,3 +30,7 @@ groupsAnswer w entries =
 abbrev pub CallsGroup : ℕ → List ℕ → ℕ → ℕ → Type 0
 CallsGroup w [] x y = x ≡ y
 CallsGroup w (m ∷ ms) x y = let a = answerOf groupOf w m x in (a .refusal ≡ 0) × CallsGroup w ms (a .word) y
+
+-- "Grouping by these masks in turn must bring every line of every word to its place": so do the masks of an answer that is not a refusal
+abbrev pub AnswersGroups : ℕ → List ℕ → Masks → Type 0
+AnswersGroups w entries r = r .refusal ≡ 0 → (x : ℕ) → x < 2 ^ w → CallsGroup w (take (logTo64 w) (r .masks)) x (pick entries x)

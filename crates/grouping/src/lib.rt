@@ -8,7 +8,7 @@ ghost use lib.Seq.{sets};
 ghost use Rattle.bits.specs.Bit.{bit};
 ghost use Rattle.routing.specs.Lists.{find, entry, ListPermutes};
 ghost use Rattle.grouping.specs.Groups.{regrouped};
-ghost use Rattle.grouping.specs.Calls.{groupsRefusal, groupsAnswer};
+ghost use Rattle.grouping.specs.Calls.{groupsRefusal, groupsAnswer, AnswersGroups};
 ghost use Rattle.grouping.specs.Destinations.{passMask, passMasks, Half, AtStep};
 
 // What `route_groups` answers: 0 and the masks of its steps, zeros after them, or the number of the refusal and zeros.
@@ -116,6 +116,7 @@ fn fill_masks(
 // takes.
 pub fn route_groups(width: u32, entries: &[u8]) -> Masks
     ensures { λ r. ⌜ r ≡ groupsAnswer width (now (entries .entry)) ⌝ }
+    ensures permutes { λ r. ⌜ AnswersGroups width (now (entries .entry)) r ⌝ }
 {
     let mut answer = Masks {
         refusal: refusal(width, entries),

@@ -16,7 +16,7 @@ ghost use Rattle.planes.specs.Planes.{planesOf, wordsOfPlanes};
 ghost use Rattle.tiles.specs.Tile.{moved, transposeRule, leftRule, rightRule, columnsRule, rowsRule};
 ghost use Rattle.subwords.specs.Subword.{checkOf, exchangePairsOf, excheckOf, mixLeftOf, mixRightOf, subwordAnswer};
 ghost use Rattle.despeckle.specs.Calls.{despeckleAnswer, despeckledOut};
-ghost use Rattle.grouping.specs.Calls.{groupsAnswer};
+ghost use Rattle.grouping.specs.Calls.{groupsAnswer, AnswersGroups};
 ghost use Rattle.permute.specs.Calls.{routeAnswer, AnswersFirst, oneAnswer, AnswersAlone};
 ghost use Rattle.gather.specs.Gather.{gatherOf, scatterOf, groupOf, answerOf};
 
@@ -121,6 +121,7 @@ pub extern "C" fn tb_route_inverse(width: u32, permutation: &[u8]) -> permute::R
 #[no_mangle]
 pub extern "C" fn tb_route_groups(width: u32, permutation: &[u8]) -> grouping::Masks
     ensures { λ r. ⌜ r ≡ groupsAnswer width (now (permutation .entry)) ⌝ }
+    ensures permutes { λ r. ⌜ AnswersGroups width (now (permutation .entry)) r ⌝ }
 {
     grouping::route_groups(width, permutation)
 }

@@ -2,6 +2,7 @@
 use mathlib.Core.Path.{refl}
 use native.Mathlib.Omega.{arith}
 use borrow.Author.Needs.{needs}
+use Rattle.grouping.proofs.Theorems.{answers-groups}
 use Rattle.grouping.proofs.GroupAnswers.{groups-refused, entries-permute, steps-allowed, groups-filled}
 use Rattle.grouping.proofs.route_groups.Statement.{statement}
 use Rattle.grouping.proofs.route_groups.Tie as tie
@@ -12,7 +13,8 @@ refusal-requires c κs = search needs
 returns : tie.Need-returns
 returns c =
     let a = c .before .before .before .args in
-    groups-refused (a .width) (a .entries .now) (c .before .refusal .ensures) (λ z. omega (arith, c .if1 .taken))
+    let e = groups-refused (a .width) (a .entries .now) (c .before .refusal .ensures) (λ z. omega (arith, c .if1 .taken)) in
+    (e, answers-groups (a .width) (a .entries .now) e)
 
 take-destinations-requires : tie.Need-take-destinations-requires
 take-destinations-requires c κs =
@@ -53,8 +55,10 @@ returns-2 c =
     let b = t .before .before in
     let a = b .before .before .before .args in
     let from = t .take-destinations in
-    groups-filled (a .width) (a .entries .now) (b .before .refusal .ensures) (b .if1 .left) (c .before .log-to-64 .ensures) (from .last .0)
+    let e = groups-filled (a .width) (a .entries .now) (b .before .refusal .ensures) (b .if1 .left) (c .before .log-to-64 .ensures) (from .last .0)
     (from .ensures .0) (from .ensures .1) (c .fill-masks .ensures)
+    in
+    (e, answers-groups (a .width) (a .entries .now) e)
 
 pub route-groups-spec : {M : Type 1} → statement M
 route-groups-spec =
