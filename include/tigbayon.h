@@ -249,7 +249,8 @@ typedef struct {
  * permuted word: place p of it has the bit of the first word that entry p names.
  *
  * The mask of step i marks each bit whose present content, after the steps before,
- * must end at a place with bit i zero. So each marks w/2 bits, for the identity too.
+ * must end at a place with bit i zero. So each marks w/2 bits, for the identity too,
+ * and different permutations get different masks.
  * masks[L] to masks[5] are zero; grouping by them leaves a word as it is.
  * Refusals: TB_REFUSAL_WIDTH, TB_REFUSAL_LENGTH, TB_REFUSAL_ENTRY.
  */

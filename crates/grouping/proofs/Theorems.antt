@@ -6,6 +6,7 @@ use Prim.Native.Nat.{ℕ, zero, suc, _+_, _^_, _<_, _≤_}
 use native.Mathlib.Omega.{arith}
 use native.Mathlib.Nat.{not-suc-le-zero}
 use lib.ListN.{length, getD, take}
+use lib.Pow.{pow-lt}
 use lib.Seq.{getD-take}
 use borrow.Author.Tests.{lt-ltb}
 use Rattle.bits.specs.Bit.{bit, ofBits, upTo, rank, places, pick}
@@ -15,7 +16,9 @@ use Rattle.gather.specs.Gather.{groupOf, refusalOf}
 use Rattle.gather.specs.declared.Gathered.{Gathered}
 use Rattle.gather.proofs.MaskAnswers.{refusal-by, carried-out}
 use Rattle.gather.proofs.Theorems.{group-below}
+use Rattle.permute.specs.Alike.{sourcesOf}
 use Rattle.permute.proofs.FirstWords.{in-use}
+use Rattle.permute.proofs.Realising.{sources-are}
 use Rattle.routing.specs.Lists.{find, ListPermutes}
 use Rattle.grouping.specs.declared.Masks.{Masks}
 use Rattle.grouping.specs.Groups.{regrouped, stepMask, masksFrom, groupMasks, groupInTurn}
@@ -55,6 +58,15 @@ module _ (L : ℕ) (entries : List ℕ) (is : ListPermutes (2 ^ L) entries) wher
   masks-half =
       masks-each L (λ m. rank m (2 ^ L) + rank m (2 ^ L) ≡ 2 ^ L)
       (λ i ds h is. rw (← (length-marked (passMask (2 ^ L) i ds) (2 ^ L))) (pass-halves L i ds h is)) entries is
+
+  -- they permute as no others do: traced by single bits, their steps are the permutation
+  groups-sources : sourcesOf (2 ^ L) (groupInTurn (2 ^ L) (groupMasks L entries)) ≡ entries
+  groups-sources =
+      sources-are (2 ^ L) (groupInTurn (2 ^ L) (groupMasks L entries)) entries (is .long) (is .small) (λ b l. groups-permute L entries is (2 ^ b) (pow-lt l))
+
+pub masks-injective : (L : ℕ) (es fs : List ℕ) → ListPermutes (2 ^ L) es → ListPermutes (2 ^ L) fs → groupMasks L es ≡ groupMasks L fs → es ≡ fs
+masks-injective L es fs p q e =
+    sym (groups-sources L es p) ∙ ap (λ (ms : List ℕ). sourcesOf (2 ^ L) (groupInTurn (2 ^ L) ms)) e ∙ groups-sources L fs q
 
 -- of the calls
 
@@ -107,6 +119,12 @@ module _ (w : ℕ) (es : List ℕ) (e : groupsAnswer w es .refusal ≡ 0) where
       in
       subst (λ (m : ℕ). rank m w + rank m w ≡ w) (sym m)
       (subst (λ (v : ℕ). rank (getD (groupMasks L es) i 0) v + rank (getD (groupMasks L es) i 0) v ≡ v) (sym width) (masks-half L es is i h))
+
+pub calls-groups-injective : (w : ℕ) (es fs : List ℕ) → groupsAnswer w es .refusal ≡ 0 → groupsAnswer w es ≡ groupsAnswer w fs → es ≡ fs
+calls-groups-injective w es fs z e =
+    let y : groupsAnswer w fs .refusal ≡ 0 = ap (λ (r : Masks). r .refusal) (sym e) ∙ z in
+    let masks = sym (calls-masks w es z) ∙ ap (λ (r : Masks). take (logTo64 w) (r .masks)) e ∙ calls-masks w fs y in
+    masks-injective (logTo64 w) es fs (is w es z) (is w fs y) masks
 
 pub answers-groups : (w : ℕ) (es : List ℕ) {r : Masks} → r ≡ groupsAnswer w es → AnswersGroups w es r
 answers-groups w es e = subst (AnswersGroups w es) (sym e) (λ z x h. calls-groups-permute w es z x h)

@@ -119,8 +119,9 @@ pub fn route_inverse(width: u32, permutation: &[u8]) -> Result<Controls, Refusal
 ///
 /// There are as many steps as a network has stages: 3, 4, 5 or 6 at width 8, 16, 32 or
 /// 64. The mask of step i, from 0, marks each bit whose present content must end at a
-/// place with bit i zero; that is half of the bits, for the identity too. The masks
-/// after the last step are zero: grouping by them leaves a word as it is.
+/// place with bit i zero; that is half of the bits, for the identity too. Different
+/// permutations get different masks. The masks after the last step are zero: grouping
+/// by them leaves a word as it is.
 ///
 /// # Errors
 ///
