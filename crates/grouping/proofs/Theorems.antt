@@ -59,7 +59,7 @@ module _ (L : ℕ) (entries : List ℕ) (is : ListPermutes (2 ^ L) entries) wher
       masks-each L (λ m. rank m (2 ^ L) + rank m (2 ^ L) ≡ 2 ^ L)
       (λ i ds h is. rw (← (length-marked (passMask (2 ^ L) i ds) (2 ^ L))) (pass-halves L i ds h is)) entries is
 
-  -- they permute as no others do: traced by single bits, their steps are the permutation
+  -- traced by single bits, their steps are the permutation
   groups-sources : sourcesOf (2 ^ L) (groupInTurn (2 ^ L) (groupMasks L entries)) ≡ entries
   groups-sources =
       sources-are (2 ^ L) (groupInTurn (2 ^ L) (groupMasks L entries)) entries (is .long) (is .small) (λ b l. groups-permute L entries is (2 ^ b) (pow-lt l))
