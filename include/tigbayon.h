@@ -32,7 +32,7 @@
 
 /* The version of this header, and of the archive that it belongs to. */
 #define TB_VERSION_MAJOR 0
-#define TB_VERSION_MINOR 9
+#define TB_VERSION_MINOR 10
 #define TB_VERSION_PATCH 0
 
 #ifdef __cplusplus
@@ -480,7 +480,13 @@ uint8_t tb_despeckle(const uint64_t *plane, size_t length, size_t rows, size_t r
  * that the table names for a kind are in use; the other bytes are not looked
  * at. Operands are read before the result is written, and all other registers
  * stay as they were. Kinds 6, 7 and 10 write the word alone, no count. A refused
- * call leaves every register as it was.
+ * call leaves the whole bank as it was, but for a bit of the status byte that a
+ * refused run sets.
+ *
+ * The status byte tells how runs ended, until that is acknowledged; the enable byte
+ * says for which of its bits the interrupt line is high. Any two bytes are accepted
+ * in a bank. Only tb_run and tb_acknowledge change the status byte, only tb_enable
+ * the enable byte.
  */
 
 /* The registers: b and ib hold controls of the butterfly and of the inverse. */
@@ -488,7 +494,16 @@ typedef struct {
     uint64_t general[16]; /* general registers 0 to 15 */
     uint64_t b[3];        /* b[0]: stage 0 in its low half, stage 1 in its high half, .. */
     uint64_t ib[3];       /* likewise */
+    uint8_t status;       /* bits of enum TbStatus, read by tb_status */
+    uint8_t enable;       /* the same bits, written by tb_enable */
 } TbBank;
+
+/* The bits of the status byte, 0 to 2. Bits 3 to 7 have no meaning and read zero. */
+enum TbStatus {
+    TB_STATUS_DONE = 1,   /* a run ended done */
+    TB_STATUS_SPENT = 2,  /* a run ended spent */
+    TB_STATUS_REFUSED = 4 /* a run was refused */
+};
 
 /* The answer of tb_operate. */
 typedef struct {
@@ -529,6 +544,10 @@ TbCycles tb_operate(TbBank *bank, uint8_t kind, uint8_t r1, uint8_t r2, uint8_t 
  * operation is left and does not fit, or else done; the empty list is done. The
  * whole list is checked before its first operation, whatever the budget. The
  * list must not overlap the bank.
+ *
+ * A run sets one bit of the status byte: TB_STATUS_DONE, TB_STATUS_SPENT, or
+ * TB_STATUS_REFUSED. The byte's other bits stay as they were, bits 3 to 7 too. A
+ * refused run changes nothing else.
  * Refusals: TB_REFUSAL_LENGTH, TB_REFUSAL_KIND, TB_REFUSAL_REGISTER.
  */
 TbRun tb_run(TbBank *bank, const uint8_t *operations, size_t length, uint32_t budget);
@@ -544,6 +563,35 @@ TbRegister tb_read(const TbBank *bank, uint8_t number);
  * Refusals: TB_REFUSAL_REGISTER.
  */
 uint8_t tb_write(TbBank *bank, uint8_t number, uint64_t value);
+
+/*
+ * Polling. Each call here is of the bank's two bytes alone and leaves all else in it
+ * as it was. Nothing is refused.
+ */
+
+/*
+ * Status: bits 0 to 2 of the status byte, each an enum TbStatus. Bits 3 to 7 read
+ * zero, whatever the byte holds.
+ */
+uint8_t tb_status(const TbBank *bank);
+
+/*
+ * Enable: the byte, all its eight bits, into the enable byte.
+ */
+void tb_enable(TbBank *bank, uint8_t byte);
+
+/*
+ * Acknowledge: the status bits where the byte has ones become zero, all eight of
+ * them alike; the others stay as they were. So 0xFF clears the status byte.
+ */
+void tb_acknowledge(TbBank *bank, uint8_t byte);
+
+/*
+ * Interrupt: the interrupt line, 1 (high) exactly if some bit is one both in what
+ * tb_status answers and in the enable byte, else 0 (low). So bits 3 to 7 of either
+ * byte do not count, and the line of a fresh bank is low.
+ */
+uint8_t tb_interrupt(const TbBank *bank);
 
 #ifdef __cplusplus
 }

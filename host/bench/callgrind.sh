@@ -2,7 +2,7 @@
 # Instructions of each call of the library, counted by callgrind, on the average over random inputs of the largest size:
 # callgrind.sh [NAME [SIZE]], for the calls whose name contains NAME, on inputs of SIZE, one of those that the bench prints.
 # Two runs are subtracted: one makes the calls, the other only what they need. Each call's share of the loop is left in:
-# `nothing` is that share, `bank` the same with a fresh bank, as it is in operate, write and every run.
+# `nothing` is that share, `bank` the same with a fresh bank, as it is in the calls that change one.
 set -euo pipefail
 cd "$(dirname "$0")/.."
 

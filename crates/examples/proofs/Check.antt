@@ -21,7 +21,8 @@ use Rattle.routing.specs.Lists.{find, controlsOf, wordOf, controlIn, butterflyW
 use Rattle.permute.specs.Permutation.{absent, namesOnce}
 use Rattle.permute.specs.Calls.{routeRefusal, routeAnswer, oneRefusal, oneAnswer}
 use Rattle.unit.specs.Operation.{cyclesOf, loadOf, effectOf}
-use Rattle.unit.specs.Run.{operationsOf, stepsOf, sumOf, ranOf, anyKind, anyRegister, runRefusal, runOf}
+use Rattle.runs.specs.StatusByte.{withBit}
+use Rattle.runs.specs.Run.{operationsOf, stepsOf, sumOf, ranOf, anyKind, anyRegister, runRefusal, performOf, runOf}
 use Rattle.examples.specs.Rows.{Row, rowOutcome, rows, Hold}
 
 same : List ℕ → List ℕ → Bool
@@ -61,7 +62,7 @@ unfolding allHold same rowOutcome answerOf refusalOf gatherOf scatterOf groupOf 
     weight num place at tab flip side loop.sent loop.loopTurn least firstStage lastStage between
     forced butterflyControls inverseControls everyBelow butterflyTest inverseTest
     placed.switchAt placed.partnerAt placed.through placed.butterfly placed.inverse
-    runOf runRefusal operationsOf stepsOf sumOf ranOf anyKind anyRegister cyclesOf loadOf effectOf inverseOf rising
+    runOf performOf withBit runRefusal operationsOf stepsOf sumOf ranOf anyKind anyRegister cyclesOf loadOf effectOf inverseOf rising
 test = tt
 
 -- Every marked row: its call has its outcome.

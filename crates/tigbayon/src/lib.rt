@@ -1,7 +1,7 @@
 // The exported C functions, declared in include/tigbayon.h: all calls of paper 01 ('Lines, masks, orders' to 'The register unit'), those of
-// prepared networks, and of paper 02 the bit planes, tiles, subwords, planes of pixels and permutations by groups. Each hands its arguments to one call.
-// No logic is here, and each promise is that call's. The host lends its register bank: it is copied out, and what the call
-// leaves is stored back.
+// prepared networks, and of paper 02 the bit planes, tiles, subwords, planes of pixels, permutations by groups and the status of the register unit. Each hands
+// its arguments to one call. No logic is here, and each promise is that call's. The host lends its register bank: its registers are copied out, and what the
+// call leaves is stored back.
 ghost use mathlib.Core.Path.{_≡_};
 ghost use mathlib.Core.Bool.{true, false};
 ghost use mathlib.Core.List.{reverse};
@@ -9,8 +9,10 @@ ghost use Rattle.network.specs.Stage.{falling, rising, butterflyOf, inverseOf};
 ghost use Rattle.network.specs.Word.{exchangesOf};
 ghost use Rattle.network.specs.Calls.{networkAnswer, prepareAnswer, decodeAnswer};
 ghost use Rattle.routing.specs.Lists.{butterflyFits, butterflyAlone, inverseFits, inverseAlone};
-ghost use Rattle.unit.specs.Run.{ranAt, runOf};
-ghost use Rattle.unit.specs.Calls.{operated, operateOf, readOf, written, writeOf};
+ghost use Rattle.runs.specs.StatusByte.{statusOf, enableLent, acknowledgeLent, interruptOf};
+ghost use Rattle.runs.specs.Run.{runLent};
+ghost use Rattle.unit.specs.Bank.{leaving};
+ghost use Rattle.unit.specs.Calls.{operateLent, readOf, writeLent};
 ghost use Rattle.pack.specs.Calls.{packAnswer, packedOut, unpackAnswer, unpackedOut};
 ghost use Rattle.planes.specs.Planes.{planesOf, wordsOfPlanes};
 ghost use Rattle.tiles.specs.Tile.{moved, transposeRule, leftRule, rightRule, columnsRule, rowsRule};
@@ -238,7 +240,6 @@ pub extern "C" fn tb_exchange(size: u32, word: u64) -> network::Carried
     subwords::exchange_pairs(size, word)
 }
 
-// One operation on a lent bank.
 #[no_mangle]
 pub extern "C" fn tb_despeckle(plane: &[u64], rows: usize, words: usize, out: &mut [u64]) -> u8
     ensures { λ r. ⌜ (r ≡ despeckleAnswer (now (plane .entry)) rows words (now (out .entry)))
@@ -247,6 +248,7 @@ pub extern "C" fn tb_despeckle(plane: &[u64], rows: usize, words: usize, out: &m
     despeckle::despeckle(plane, rows, words, out)
 }
 
+// One operation on a lent bank.
 #[no_mangle]
 pub extern "C" fn tb_operate(
     bank: &mut unit::Bank,
@@ -255,37 +257,71 @@ pub extern "C" fn tb_operate(
     r2: u8,
     r3: u8,
 ) -> unit::Cycles
-    ensures { λ r. ⌜ operated r (now (bank .exit)) ≡ operateOf (now (bank .entry)) kind r1 r2 r3 ⌝ }
+    ensures { λ r. ⌜ leaving r (now (bank .exit)) ≡ operateLent (now (bank .entry)) kind r1 r2 r3 ⌝ }
 {
-    let after = unit::operate(*bank, kind, r1, r2, r3);
-    *bank = after.bank;
+    let after = unit::operate(bank.registers, kind, r1, r2, r3);
+    bank.registers = after.registers;
     after.answer
 }
 
 // A run on a lent bank.
 #[no_mangle]
-pub extern "C" fn tb_run(bank: &mut unit::Bank, ops: &[u8], budget: u32) -> unit::Outcome
-    ensures { λ r. ⌜ ranAt r (now (bank .exit)) ≡ runOf (now (bank .entry)) (now (ops .entry)) budget ⌝ }
+pub extern "C" fn tb_run(bank: &mut unit::Bank, ops: &[u8], budget: u32) -> runs::Outcome
+    ensures { λ r. ⌜ leaving r (now (bank .exit)) ≡ runLent (now (bank .entry)) (now (ops .entry)) budget ⌝ }
 {
-    let after = unit::run(*bank, ops, budget);
-    *bank = after.bank;
+    let after = runs::run(bank.registers, ops, budget);
+    bank.registers = after.registers;
     after.run
 }
 
 // The value of one general register of a lent bank.
 #[no_mangle]
 pub extern "C" fn tb_read(bank: &unit::Bank, number: u8) -> unit::Register
-    ensures { λ r. ⌜ r ≡ readOf (now (bank .entry)) number ⌝ }
+    ensures { λ r. ⌜ r ≡ readOf (now (bank .entry) .registers) number ⌝ }
 {
-    unit::read(*bank, number)
+    unit::read(bank.registers, number)
 }
 
 // A value into one general register of a lent bank.
 #[no_mangle]
 pub extern "C" fn tb_write(bank: &mut unit::Bank, number: u8, value: u64) -> u8
-    ensures { λ r. ⌜ written r (now (bank .exit)) ≡ writeOf (now (bank .entry)) number value ⌝ }
+    ensures { λ r. ⌜ leaving r (now (bank .exit)) ≡ writeLent (now (bank .entry)) number value ⌝ }
 {
-    let after = unit::write(*bank, number, value);
-    *bank = after.bank;
+    let after = unit::write(bank.registers, number, value);
+    bank.registers = after.registers;
     after.refusal
+}
+
+// The status of a lent bank.
+#[no_mangle]
+pub extern "C" fn tb_status(bank: &unit::Bank) -> u8
+    ensures { λ r. ⌜ r ≡ statusOf (now (bank .entry) .registers) ⌝ }
+{
+    runs::status(bank.registers)
+}
+
+// A byte into the enable byte of a lent bank.
+#[no_mangle]
+pub extern "C" fn tb_enable(bank: &mut unit::Bank, byte: u8)
+    ensures { λ _. ⌜ now (bank .exit) ≡ enableLent (now (bank .entry)) byte ⌝ }
+{
+    let after = runs::enable(bank.registers, byte);
+    bank.registers = after;
+}
+
+// Status bits of a lent bank cleared.
+#[no_mangle]
+pub extern "C" fn tb_acknowledge(bank: &mut unit::Bank, byte: u8)
+    ensures { λ _. ⌜ now (bank .exit) ≡ acknowledgeLent (now (bank .entry)) byte ⌝ }
+{
+    let after = runs::acknowledge(bank.registers, byte);
+    bank.registers = after;
+}
+
+// The interrupt line of a lent bank.
+#[no_mangle]
+pub extern "C" fn tb_interrupt(bank: &unit::Bank) -> u8
+    ensures { λ r. ⌜ r ≡ interruptOf (now (bank .entry) .registers) ⌝ }
+{
+    runs::interrupt(bank.registers)
 }

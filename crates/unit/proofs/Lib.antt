@@ -2,8 +2,7 @@ pub mod Held
 pub mod Tables
 pub mod RegistersTested
 pub mod LentRegisters
+pub mod Carried
 pub mod KeptNetworks
 pub mod LowestRefusals
-pub mod OperationLists
-pub mod Runs
 pub mod Theorems

@@ -1,4 +1,4 @@
--- Demand 1, of the register unit's calls: the lowest refusal, zeros beside it, and the bank as it was. Assumes nothing.
+-- Demand 1, of the register unit's calls: the lowest refusal, zeros beside it, and the registers as they were. Assumes nothing.
 use mathlib.Core.Path.{_≡_, refl}
 use mathlib.Core.Bool.{Bool, not}
 use mathlib.Core.List.{List, [], _∷_}
@@ -6,15 +6,13 @@ use Prim.Native.Nat.{ℕ}
 use native.Mathlib.Omega.{arith}
 use Rattle.bits.specs.Refusal.{lowest, AnswersLowest}
 use Rattle.bits.proofs.Refusals.{answers-lowest}
-use Rattle.unit.specs.declared.Bank.{Bank}
+use Rattle.unit.specs.declared.Registers.{Registers}
 use Rattle.unit.specs.declared.Operated.{Operated}
 use Rattle.unit.specs.declared.Register.{Register}
 use Rattle.unit.specs.declared.Written.{Written}
-use Rattle.unit.specs.declared.Ran.{Ran}
 use Rattle.unit.specs.Bank.{register, withRegister}
 use Rattle.unit.specs.Operation.{cyclesOf, isKind, usedOf, areRegisters, operationConditions, operationRefusal, stepOf}
 use Rattle.unit.specs.Calls.{operated, written, operateOf, numberConditions, numberRefusal, readOf, writeOf}
-use Rattle.unit.specs.Run.{operationsOf, ranOf, runConditions, runRefusal, outcomeOf, refusedOf, runOf}
 
 -- the refusal of an operation, from the outcomes of the two tests
 pub operation-refusal-by : (kind r1 r2 r3 : ℕ) {a b : Bool} → isKind kind r1 ≡ a → areRegisters (usedOf kind r1 r2 r3) ≡ b
@@ -22,7 +20,7 @@ pub operation-refusal-by : (kind r1 r2 r3 : ℕ) {a b : Bool} → isKind kind r1
 unfolding operationRefusal
 operation-refusal-by kind r1 r2 r3 p q = λ i. lowest ((7, not (p i)) ∷ (8, not (q i)) ∷ [])
 
-module _ (k : Bank) where
+module _ (k : Registers) where
   pub operate-lowest : (kind r1 r2 r3 : ℕ)
       → AnswersLowest (operationConditions kind r1 r2 r3) (λ a. a .answer .refusal) (λ n. operated (record { refusal = n; cycles = 0 }) k) (operateOf k kind r1 r2 r3)
   unfolding operateOf operationRefusal
@@ -42,9 +40,3 @@ module _ (k : Bank) where
   write-lowest n v =
       answers-lowest (numberConditions n) (omega arith) (λ (a : Written). a .refusal) (λ r. written r k)
       (written 0 (withRegister k n v)) refl (λ r. refl)
-
-  pub run-lowest : (bytes : List ℕ) (budget : ℕ) → AnswersLowest (runConditions bytes) (λ a. a .run .refusal) (λ n. refusedOf k n) (runOf k bytes budget)
-  unfolding runOf runRefusal
-  run-lowest bytes budget =
-      answers-lowest (runConditions bytes) (omega arith) (λ (a : Ran). a .run .refusal) (λ n. refusedOf k n)
-      (outcomeOf k (operationsOf bytes) (ranOf budget (operationsOf bytes))) refl (λ n. refl)

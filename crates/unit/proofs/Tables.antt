@@ -35,6 +35,12 @@ abbrev pub Absent : {A : Type 0} → ℕ → List (ℕ × A) → Type 0
 Absent n [] = Unit
 Absent n (e ∷ es) = (n ≡ e .0 → ⊥) × Absent n es
 
+-- then the table has none there
+pub absent-other : {A : Type 0} (n : ℕ) (es : List (ℕ × A)) (d : A) → Absent n es → tableEntry n es d ≡ d
+absent-other n [] d none = refl
+absent-other n (e ∷ es) d none =
+    ap (λ (b : Bool). cond b (e .1) (tableEntry n es d)) (ne-eqb n (e .0) (none .0)) ∙ absent-other n es d (none .1)
+
 -- the entries are numbered from a
 abbrev pub Numbered : {A : Type 0} → ℕ → List (ℕ × A) → Type 0
 Numbered a [] = Unit

@@ -1,26 +1,49 @@
--- The register bank of paper 01, 'The register unit': sixteen general registers, and two triples that hold controls. Assumes nothing.
+-- The register bank of paper 01, 'The register unit': sixteen general registers, and two triples that hold controls; of paper 02, Req 09, two bytes more.
+-- Assumes nothing.
 use Prim.Native.Nat.{ℕ, _+_, _*_, _/_, _%_, _^_}
 use mathlib.Core.List.{List, [], _∷_}
 use lib.ListN.{getD, set, replicate}
+use Rattle.unit.specs.declared.Registers.{Registers}
 use Rattle.unit.specs.declared.Bank.{Bank}
 
--- "all zero when fresh"
-abbrev pub fresh : Bank
-fresh = record { general = replicate 16 0; b = replicate 3 0; ib = replicate 3 0 }
+-- "all zero when fresh"; Req 09: "The register bank gains a status byte and an enable byte, both zero when fresh."
+abbrev pub fresh : Registers
+fresh = record { general = replicate 16 0; b = replicate 3 0; ib = replicate 3 0; status = 0; enable = 0 }
+
+abbrev pub freshBank : Bank
+freshBank = record { registers = fresh }
+
+-- the registers k with other words, and with one other byte
+abbrev pub withWords : Registers → List ℕ → List ℕ → List ℕ → Registers
+withWords k g b i = record { general = g; b = b; ib = i; status = k .status; enable = k .enable }
+
+abbrev pub withStatus : Registers → ℕ → Registers
+withStatus k s = record { general = k .general; b = k .b; ib = k .ib; status = s; enable = k .enable }
+
+abbrev pub withEnable : Registers → ℕ → Registers
+withEnable k e = record { general = k .general; b = k .b; ib = k .ib; status = k .status; enable = e }
 
 -- general register n
-abbrev pub register : Bank → ℕ → ℕ
+abbrev pub register : Registers → ℕ → ℕ
 register k n = getD (k .general) n 0
 
--- the bank with value v in general register n
-abbrev pub withRegister : Bank → ℕ → ℕ → Bank
-withRegister k n v = record { general = set (k .general) n v; b = k .b; ib = k .ib }
+-- the registers with value v in general register n
+abbrev pub withRegister : Registers → ℕ → ℕ → Registers
+withRegister k n v = withWords k (set (k .general) n v) (k .b) (k .ib)
 
-abbrev pub withB : Bank → List ℕ → Bank
-withB k rs = record { general = k .general; b = rs; ib = k .ib }
+abbrev pub withB : Registers → List ℕ → Registers
+withB k rs = withWords k (k .general) rs (k .ib)
 
-abbrev pub withIb : Bank → List ℕ → Bank
-withIb k rs = record { general = k .general; b = k .b; ib = rs }
+abbrev pub withIb : Registers → List ℕ → Registers
+withIb k rs = withWords k (k .general) (k .b) rs
+
+-- the bank with other registers
+abbrev pub withRegisters : Bank → Registers → Bank
+withRegisters k rs = record { registers = rs }
+
+-- an answer, and beside it the bank that the call leaves
+abbrev pub leaving : {A : Type 0} → A → Bank → A × Bank
+leaving a k = (a, k)
 
 -- "b1 holds column 1 in its low half and column 2 in its high half; b2 and b3 go on so, and ib likewise": the stages held by control registers
 abbrev pub stagesOf : List ℕ → List ℕ

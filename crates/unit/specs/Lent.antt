@@ -1,4 +1,4 @@
--- The registers of a bank as inner functions lend them, one array each. No public contract cites this file. Assumes nothing.
+-- The words of the registers as inner functions lend them, one array each. No public contract cites this file. Assumes nothing.
 use mathlib.Core.Path.{_≡_}
 use mathlib.Core.Bool.{Bool, cond, _&&_}
 use mathlib.Core.List.{List, _++_}
@@ -6,12 +6,12 @@ use Prim.Native.Nat.{ℕ}
 use lib.Dec.{eqb}
 use lib.ListN.{length, getD, set}
 use Rattle.network.specs.Word.{preparedOf}
-use Rattle.unit.specs.declared.Bank.{Bank}
-use Rattle.unit.specs.Bank.{stagesOf}
+use Rattle.unit.specs.declared.Registers.{Registers}
+use Rattle.unit.specs.Bank.{fresh, withWords, stagesOf}
 
--- the bank of these registers
-abbrev pub bankOf : List ℕ → List ℕ → List ℕ → Bank
-bankOf g b i = record { general = g; b = b; ib = i }
+-- the registers of these words, both bytes zero: inner functions see no byte
+abbrev pub registersOf : List ℕ → List ℕ → List ℕ → Registers
+registersOf g b i = withWords fresh g b i
 
 -- they are as many as a bank has
 abbrev pub Sized : List ℕ → List ℕ → List ℕ → Type 0

@@ -1,5 +1,4 @@
 pub mod Bank
 pub mod Operation
 pub mod Calls
-pub mod Run
 pub mod Lent

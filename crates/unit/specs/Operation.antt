@@ -1,5 +1,5 @@
 -- One operation of the register unit, paper 01: a kind and three bytes. Assumes nothing.
-use Prim.Native.Nat.{ℕ}
+use Prim.Native.Nat.{ℕ, _+_}
 use mathlib.Core.Bool.{Bool, true, not, cond, _&&_, _||_}
 use mathlib.Core.List.{List, [], _∷_}
 use lib.Bits.{bitAnd}
@@ -9,7 +9,7 @@ use Rattle.bits.specs.Refusal.{lowest}
 use Rattle.gather.specs.Gather.{gatherOf, scatterOf, groupOf}
 use Rattle.network.specs.Stage.{butterflyOf, inverseOf}
 use Rattle.network.specs.Decoder.{decodeOf, decodeInverseOf}
-use Rattle.unit.specs.declared.Bank.{Bank}
+use Rattle.unit.specs.declared.Registers.{Registers}
 use Rattle.unit.specs.Bank.{register, withRegister, withB, withIb, stagesOf, packedOf}
 
 -- the table's figures, by kind
@@ -62,7 +62,7 @@ unfoldable pub operationRefusal : ℕ → ℕ → ℕ → ℕ → ℕ
 operationRefusal kind r1 r2 r3 = lowest (operationConditions kind r1 r2 r3)
 
 -- "r1 = 1: b1, b2 = r2, r3; 2: b3 = r2; 3: ib1, ib2 = r2, r3; 4: ib3 = r2", of the words x and y in r2 and r3
-abbrev pub loads : Bank → ℕ → ℕ → List (ℕ × Bank)
+abbrev pub loads : Registers → ℕ → ℕ → List (ℕ × Registers)
 loads k x y =
     (1, withB k (set (set (k .b) 0 x) 1 y))
     ∷ (2, withB k (set (k .b) 2 x))
@@ -70,12 +70,12 @@ loads k x y =
     ∷ (4, withIb k (set (k .ib) 2 x))
     ∷ []
 
-unfoldable pub loadOf : Bank → ℕ → ℕ → ℕ → Bank
+unfoldable pub loadOf : Registers → ℕ → ℕ → ℕ → Registers
 loadOf k r1 x y = tableEntry r1 (loads k x y) k
 
--- The table, by kind: the bank k after an operation with x and y in r2 and r3. Paper 02, Req 01, of the count of marked lines: "Kinds 6, 7 and 10 of the
+-- The table, by kind: the registers k after an operation with x and y in r2 and r3. Paper 02, Req 01, of the count of marked lines: "Kinds 6, 7 and 10 of the
 -- register unit do not store it."
-abbrev pub effects : Bank → ℕ → ℕ → ℕ → List (ℕ × Bank)
+abbrev pub effects : Registers → ℕ → ℕ → ℕ → List (ℕ × Registers)
 effects k r1 x y =
     (1, withRegister k r1 (butterflyOf 6 (stagesOf (k .b)) x))
     ∷ (2, withRegister k r1 (inverseOf 6 (stagesOf (k .ib)) x))
@@ -89,9 +89,21 @@ effects k r1 x y =
     ∷ (10, withRegister k r1 (groupOf 64 y x))
     ∷ []
 
-unfoldable pub effectOf : Bank → ℕ → ℕ → ℕ → ℕ → Bank
+unfoldable pub effectOf : Registers → ℕ → ℕ → ℕ → ℕ → Registers
 effectOf k kind r1 x y = tableEntry kind (effects k r1 x y) k
 
 -- Operands are those of k: they are read before the result is written.
-abbrev pub stepOf : Bank → ℕ → ℕ → ℕ → ℕ → Bank
+abbrev pub stepOf : Registers → ℕ → ℕ → ℕ → ℕ → Registers
 stepOf k kind r1 r2 r3 = effectOf k kind r1 (register k r2) (register k r3)
+
+-- "An operation is four bytes: kind, r1, r2, r3."
+abbrev pub Operation : Type 0
+Operation = ℕ × ℕ × ℕ × ℕ
+
+-- the operation at byte i of a list
+abbrev pub operationAt : List ℕ → ℕ → Operation
+operationAt bytes i = (getD bytes i 0, getD bytes (i + 1) 0, getD bytes (i + 2) 0, getD bytes (i + 3) 0)
+
+-- the registers after an operation
+abbrev pub stepBy : Registers → Operation → Registers
+stepBy k o = stepOf k (o .0) (o .1) (o .2) (o .3)

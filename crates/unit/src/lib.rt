@@ -1,4 +1,4 @@
-// The register unit (paper 01, 'The register unit'; demand 2): the bank of registers by value, one operation, a run with a budget of cycles.
+// The register unit (paper 01, 'The register unit'; demand 2): its registers by value, one operation, reading and writing a general register.
 ghost use mathlib.Core.Path.{_≡_};
 ghost use Prim.Native.Nat.{_+_, _-_, _*_, _/_, _%_, _^_, _≤_, _<_};
 ghost use mathlib.Core.Bool.{true, false, cond};
@@ -11,26 +11,29 @@ ghost use Rattle.network.specs.Decoder.{decodeOf, decodeInverseOf};
 ghost use Rattle.network.specs.Stage.{butterflyOf, inverseOf};
 ghost use Rattle.network.specs.Word.{preparedOf};
 ghost use Rattle.unit.specs.Bank.{stagesOf, packedOf};
-ghost use Rattle.unit.specs.Lent.{Sized, bankOf, loadedAt, keptOf, isFor, KeptNetwork};
-ghost use Rattle.unit.specs.Calls.{operateOf, numberRefusal, readOf, writeOf};
-ghost use Rattle.unit.specs.Run.{operationAt, stepBy, operationsOf, ranOf, operationsRefusal, runRefusal, ranAt, outcomeOf, runOf};
-ghost use Rattle.unit.specs.Operation.{cyclesOf, isKind, usedOf, areRegisters, operationRefusal};
+ghost use Rattle.unit.specs.Lent.{Sized, registersOf, loadedAt, keptOf, isFor, KeptNetwork};
+ghost use Rattle.unit.specs.Calls.{operated, operateOf, numberRefusal, readOf, writeOf};
+ghost use Rattle.unit.specs.Operation.{cyclesOf, isKind, usedOf, areRegisters, operationRefusal, operationAt, stepBy};
 
-// The registers of the unit: sixteen general ones, and the controls of both networks, two stages a register, the earlier one in the low half.
+// The registers of the unit: sixteen general ones, and the controls of both networks, two stages a register, the earlier one in the low half; the status byte,
+// and the byte that says which of its bits raise the interrupt line.
 #[repr(C)]
-pub struct Bank {
+pub struct Registers {
     pub general: [u64; 16],
     pub b: [u64; 3],
     pub ib: [u64; 3],
+    pub status: u8,
+    pub enable: u8,
+}
+
+// What the host lends.
+#[repr(C)]
+pub struct Bank {
+    pub registers: Registers,
 }
 
 // The table's figures, by kind: a hexadecimal digit each, kind 0 at the right. (An array would be built anew at each look.)
 const CYCLES: u64 = 0x32233111110;
-
-// How a run ended, if it was carried out.
-const DONE: u8 = 1;
-
-const SPENT: u8 = 2;
 
 // internal: sixteen general registers. Register `number`.
 fn general_at(general: &[u64; 16], number: u8) -> u64
@@ -61,25 +64,10 @@ pub struct Cycles {
     pub cycles: u32,
 }
 
-// An operation's answer, and the bank after it.
+// An operation's answer, and the registers after it.
 pub struct Operated {
     pub answer: Cycles,
-    pub bank: Bank,
-}
-
-// What a run answers: how it ended (0 refused, 1 done, 2 spent), the operations run and the cycles used; zeros beside a refusal.
-#[repr(C)]
-pub struct Outcome {
-    pub refusal: u8,
-    pub end: u8,
-    pub ran: u32,
-    pub cycles: u32,
-}
-
-// A run's answer, and the bank after it.
-pub struct Ran {
-    pub run: Outcome,
-    pub bank: Bank,
+    pub registers: Registers,
 }
 
 // What reading a general register answers: 0 and the value, or the number of the refusal and a zero.
@@ -89,10 +77,10 @@ pub struct Register {
     pub value: u64,
 }
 
-// What writing a general register answers, and the bank after it.
+// What writing a general register answers, and the registers after it.
 pub struct Written {
     pub refusal: u8,
-    pub bank: Bank,
+    pub registers: Registers,
 }
 
 // The stage in the low half of a control register.
@@ -191,7 +179,7 @@ fn words_of(kept: [u64; 9]) -> [u64; 6]
 }
 
 // Both, for a triple of registers.
-fn kept_for(rising: bool, registers: [u64; 3]) -> [u64; 9]
+pub fn kept_for(rising: bool, registers: [u64; 3]) -> [u64; 9]
     ensures { λ r. ⌜ r ≡ keptOf rising registers ⌝ }
 {
     beside(prepared(rising, registers), registers)
@@ -249,7 +237,7 @@ fn decoded_inverse(mask: u64) -> [u64; 3]
 }
 
 // The cycles of a kind.
-fn cycles_of(kind: u8) -> u32
+pub fn cycles_of(kind: u8) -> u32
     ensures { λ r. ⌜ r ≡ cyclesOf kind ⌝ }
 {
     if 10 < kind {
@@ -259,14 +247,14 @@ fn cycles_of(kind: u8) -> u32
 }
 
 // Whether the kind is one of the table, and in kind 5 r1 one of its four.
-fn is_kind(kind: u8, r1: u8) -> bool
+pub fn is_kind(kind: u8, r1: u8) -> bool
     ensures { λ r. ⌜ r ≡ isKind kind r1 ⌝ }
 {
     (1 <= kind) & (kind <= 10) & ((kind != 5) | (1 <= r1) & (r1 <= 4))
 }
 
 // Whether every register number in use is one of a general register. No branch depends on the bytes.
-fn are_registers(kind: u8, r1: u8, r2: u8, r3: u8) -> bool
+pub fn are_registers(kind: u8, r1: u8, r2: u8, r3: u8) -> bool
     ensures { λ r. ⌜ r ≡ areRegisters (usedOf kind r1 r2 r3) ⌝ }
 {
     let first = (kind == 5) | (kind == 8) | (kind == 9) | (r1 <= 15);
@@ -327,9 +315,9 @@ fn mask_of(kind: u8, y: u64) -> u64
     y
 }
 
-// internal: the registers of a bank, what is kept of both networks, and an operation at byte `at`. The table of paper 01: the registers after it, if it is
+// internal: the words of the registers, what is kept of both networks, and an operation at byte `at`. The table of paper 01: the registers after it, if it is
 // accepted. Both operands are read before the result is written.
-fn step(
+pub fn step(
     general: &mut [u64; 16],
     b: &mut [u64; 3],
     ib: &mut [u64; 3],
@@ -339,7 +327,7 @@ fn step(
     at: usize,
 )
     requires { ⌜ Sized (now general) (now b) (now ib) × KeptNetwork false (now falling) × KeptNetwork true (now rising) × (at + 3 < length (now ops)) ⌝ }
-    ensures { λ r. ⌜ (bankOf (now (general .exit)) (now (b .exit)) (now (ib .exit)) ≡ stepBy (bankOf (now (general .entry)) (now (b .entry)) (now (ib .entry))) (operationAt (now (ops .entry)) at))
+    ensures { λ r. ⌜ (registersOf (now (general .exit)) (now (b .exit)) (now (ib .exit)) ≡ stepBy (registersOf (now (general .entry)) (now (b .entry)) (now (ib .entry))) (operationAt (now (ops .entry)) at))
         × KeptNetwork false (now (falling .exit)) × KeptNetwork true (now (rising .exit)) ⌝ }
 {
     let kind = ops[at];
@@ -359,23 +347,28 @@ fn step(
     }
 }
 
-// One operation on the bank: its cycles, or the lowest refusal and the bank as it was.
-pub fn operate(bank: Bank, kind: u8, r1: u8, r2: u8, r3: u8) -> Operated
-    ensures { λ r. ⌜ r ≡ operateOf bank kind r1 r2 r3 ⌝ }
+// What a refused operation answers: its number, no cycles, and the registers as they were.
+fn turned_back(registers: Registers, number: u8) -> Operated
+    ensures { λ r. ⌜ r ≡ operated (record { refusal = number; cycles = 0 }) registers ⌝ }
+{
+    let answer = Cycles {
+        refusal: number,
+        cycles: 0,
+    };
+    Operated { answer, registers }
+}
+
+// One operation on the registers: its cycles, or the lowest refusal and the registers as they were.
+pub fn operate(registers: Registers, kind: u8, r1: u8, r2: u8, r3: u8) -> Operated
+    ensures { λ r. ⌜ r ≡ operateOf registers kind r1 r2 r3 ⌝ }
 {
     let refused = operation_refusal(kind, r1, r2, r3);
     if refused != 0 {
-        return Operated {
-            answer: Cycles {
-                refusal: refused,
-                cycles: 0,
-            },
-            bank,
-        };
+        return turned_back(registers, refused);
     }
-    let mut general = bank.general;
-    let mut b = bank.b;
-    let mut ib = bank.ib;
+    let mut general = registers.general;
+    let mut b = registers.b;
+    let mut ib = registers.ib;
     let bytes = [kind, r1, r2, r3];
     let mut falling = kept_for(false, [0u64; 3]);
     let mut rising = kept_for(true, [0u64; 3]);
@@ -393,7 +386,13 @@ pub fn operate(bank: Bank, kind: u8, r1: u8, r2: u8, r3: u8) -> Operated
             refusal: 0,
             cycles: cycles_of(kind),
         },
-        bank: Bank { general, b, ib },
+        registers: Registers {
+            general,
+            b,
+            ib,
+            status: registers.status,
+            enable: registers.enable,
+        },
     }
 }
 
@@ -408,8 +407,8 @@ fn number_refusal(number: u8) -> u8
 }
 
 // The value of one general register.
-pub fn read(bank: Bank, number: u8) -> Register
-    ensures { λ r. ⌜ r ≡ readOf bank number ⌝ }
+pub fn read(registers: Registers, number: u8) -> Register
+    ensures { λ r. ⌜ r ≡ readOf registers number ⌝ }
 {
     let refused = number_refusal(number);
     if refused != 0 {
@@ -418,140 +417,28 @@ pub fn read(bank: Bank, number: u8) -> Register
             value: 0,
         };
     }
-    let general = bank.general;
+    let general = registers.general;
     Register {
         refusal: 0,
         value: general_at(&general, number),
     }
 }
 
-// The bank with a value in one general register.
-pub fn write(bank: Bank, number: u8, value: u64) -> Written
-    ensures { λ r. ⌜ r ≡ writeOf bank number value ⌝ }
+// The registers with a value in one general register.
+pub fn write(registers: Registers, number: u8, value: u64) -> Written
+    ensures { λ r. ⌜ r ≡ writeOf registers number value ⌝ }
 {
     let refused = number_refusal(number);
     if refused != 0 {
         return Written {
             refusal: refused,
-            bank,
+            registers,
         };
     }
-    let mut after = bank;
+    let mut after = registers;
     put(&mut after.general, number, value);
     Written {
         refusal: 0,
-        bank: after,
-    }
-}
-
-// internal: whole operations. The lowest refusal of any of them; 0 if there is none.
-fn operations_refusal(ops: &[u8]) -> u8
-    requires { ⌜ length (now ops) % 4 ≡ 0 ⌝ }
-    ensures { λ r. ⌜ r ≡ operationsRefusal (operationsOf (now (ops .entry))) ⌝ }
-{
-    let mut registers = true;
-    let mut at: usize = 0;
-    while at < ops.len() {
-        if !is_kind(ops[at], ops[at + 1]) {
-            return bits::KIND;
-        }
-        registers = registers & are_registers(ops[at], ops[at + 1], ops[at + 2], ops[at + 3]);
-        at += 4;
-    }
-    if !registers {
-        return bits::REGISTER;
-    }
-    bits::CARRIED_OUT
-}
-
-// The lowest refusal of a run's list; 0 if it is carried out.
-fn run_refusal(ops: &[u8]) -> u8
-    ensures { λ r. ⌜ r ≡ runRefusal (now (ops .entry)) ⌝ }
-{
-    if ops.len() % 4 != 0 {
-        return bits::LENGTH;
-    }
-    if 4096 < ops.len() {
-        return bits::LENGTH;
-    }
-    operations_refusal(ops)
-}
-
-// internal: the registers of a bank, and whole operations, at most 1,024. They are carried out while the next one's cycles fit in what is left of the budget.
-fn carry_out(
-    general: &mut [u64; 16],
-    b: &mut [u64; 3],
-    ib: &mut [u64; 3],
-    ops: &[u8],
-    budget: u32,
-) -> Outcome
-    requires { ⌜ Sized (now general) (now b) (now ib) × (length (now ops) % 4 ≡ 0) × (length (now ops) ≤ 4096) ⌝ }
-    ensures { λ r. ⌜ ranAt r (bankOf (now (general .exit)) (now (b .exit)) (now (ib .exit))) ≡ outcomeOf (bankOf (now (general .entry)) (now (b .entry)) (now (ib .entry))) (operationsOf (now (ops .entry))) (ranOf budget (operationsOf (now (ops .entry)))) ⌝ }
-{
-    let mut falling = kept_for(false, [0u64; 3]);
-    let mut rising = kept_for(true, [0u64; 3]);
-    let mut left = budget;
-    let mut ran: u32 = 0;
-    let mut at: usize = 0;
-    while at < ops.len() {
-        let cycles = cycles_of(ops[at]);
-        if left < cycles {
-            return ended(SPENT, ran, budget - left);
-        }
-        step(general, b, ib, &mut falling, &mut rising, ops, at);
-        left -= cycles;
-        ran += 1;
-        at += 4;
-    }
-    ended(DONE, ran, budget - left)
-}
-
-// The answer of a run that was carried out.
-fn ended(end: u8, ran: u32, cycles: u32) -> Outcome
-    ensures { λ r. ⌜ r ≡ record { refusal = 0; «end» = «end»; ran = ran; cycles = cycles } ⌝ }
-{
-    Outcome {
-        refusal: 0,
-        end,
-        ran,
-        cycles,
-    }
-}
-
-// internal: the registers of a bank. A run of the list on them, or its refusal.
-fn run_on(
-    general: &mut [u64; 16],
-    b: &mut [u64; 3],
-    ib: &mut [u64; 3],
-    ops: &[u8],
-    budget: u32,
-) -> Outcome
-    requires { ⌜ Sized (now general) (now b) (now ib) ⌝ }
-    ensures { λ r. ⌜ ranAt r (bankOf (now (general .exit)) (now (b .exit)) (now (ib .exit))) ≡ runOf (bankOf (now (general .entry)) (now (b .entry)) (now (ib .entry))) (now (ops .entry)) budget ⌝ }
-{
-    let refused = run_refusal(ops);
-    if refused != 0 {
-        return Outcome {
-            refusal: refused,
-            end: 0,
-            ran: 0,
-            cycles: 0,
-        };
-    }
-    carry_out(general, b, ib, ops, budget)
-}
-
-// A run of the list on the bank within a budget of cycles: done or spent, the operations run and their cycles; or the lowest refusal of the whole list and the
-// bank as it was.
-pub fn run(bank: Bank, ops: &[u8], budget: u32) -> Ran
-    ensures { λ r. ⌜ r ≡ runOf bank (now (ops .entry)) budget ⌝ }
-{
-    let mut general = bank.general;
-    let mut b = bank.b;
-    let mut ib = bank.ib;
-    let run = run_on(&mut general, &mut b, &mut ib, ops, budget);
-    Ran {
-        run,
-        bank: Bank { general, b, ib },
+        registers: after,
     }
 }

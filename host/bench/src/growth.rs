@@ -18,12 +18,12 @@ use conformance::samples::{random_eight, random_permutation, Random};
 use conformance::unit::lent;
 use std::hint::black_box;
 use tigbayon::{
-    tb_butterfly, tb_butterfly_prepared, tb_check, tb_decode, tb_exchange, tb_excheck,
-    tb_from_planes, tb_gather, tb_group, tb_inverse, tb_inverse_prepared, tb_mix_left,
-    tb_mix_right, tb_operate, tb_prepare_butterfly, tb_prepare_inverse, tb_read, tb_route,
-    tb_route_butterfly, tb_route_groups, tb_route_inverse, tb_run, tb_scatter,
-    tb_tile_mirror_columns, tb_tile_mirror_rows, tb_tile_transpose, tb_tile_turn_left,
-    tb_tile_turn_right, tb_to_planes, tb_write, TbBank, TbPlanes,
+    tb_acknowledge, tb_butterfly, tb_butterfly_prepared, tb_check, tb_decode, tb_enable,
+    tb_exchange, tb_excheck, tb_from_planes, tb_gather, tb_group, tb_interrupt, tb_inverse,
+    tb_inverse_prepared, tb_mix_left, tb_mix_right, tb_operate, tb_prepare_butterfly,
+    tb_prepare_inverse, tb_read, tb_route, tb_route_butterfly, tb_route_groups, tb_route_inverse,
+    tb_run, tb_scatter, tb_status, tb_tile_mirror_columns, tb_tile_mirror_rows, tb_tile_transpose,
+    tb_tile_turn_left, tb_tile_turn_right, tb_to_planes, tb_write, TbBank, TbPlanes,
 };
 
 /// Calls whose inputs have sizes of one sort.
@@ -171,9 +171,19 @@ pub const GROWTHS: [Growth; 6] = [
             ("write", |_| {
                 on_bank(1, program, |bank, list| tb_write(bank, list[0], 1))
             }),
+            ("enable", |_| {
+                on_bank(1, program, |bank, list| tb_enable(bank, list[0]))
+            }),
+            ("acknowledge", |_| {
+                on_bank(1, program, |bank, list| tb_acknowledge(bank, list[0]))
+            }),
             // What the timing takes of that: a fresh bank, and of all calls.
             ("bank", |_| on_bank(1, program, |_, _| ())),
             ("read", |_| calls(1, random_bank, |bank| tb_read(bank, 1))),
+            ("status", |_| calls(1, random_bank, |bank| tb_status(bank))),
+            ("interrupt", |_| {
+                calls(1, random_bank, |bank| tb_interrupt(bank))
+            }),
             ("nothing", |_| calls(1, random_bank, |_| ())),
         ],
     },

@@ -15,9 +15,15 @@ pub enum Failure {
         /// The command whose help tells more; none if it is not known.
         command: Option<&'static str>,
     },
-    /// The library refused the call, for this part of the arguments if one is
-    /// named.
-    Refused(Refusal, Option<String>),
+    /// The library refused the call.
+    Refused {
+        /// Why.
+        refusal: Refusal,
+        /// The part of the arguments that it was refused for, if one is named.
+        part: Option<String>,
+        /// A line below that, if there is more to tell.
+        below: Option<String>,
+    },
     /// What is named here could not be written.
     Unwritten(String, io::Error),
 }
@@ -84,7 +90,7 @@ impl Failure {
     pub fn status(&self) -> ExitCode {
         let (status, _) = match self {
             Failure::Argument { .. } => STATUSES[1],
-            Failure::Refused(..) => STATUSES[2],
+            Failure::Refused { .. } => STATUSES[2],
             Failure::Unwritten(..) => STATUSES[3],
         };
         status.into()
@@ -93,7 +99,11 @@ impl Failure {
 
 impl From<Refusal> for Failure {
     fn from(refusal: Refusal) -> Self {
-        Failure::Refused(refusal, None)
+        Failure::Refused {
+            refusal,
+            part: None,
+            below: None,
+        }
     }
 }
 
@@ -104,10 +114,15 @@ impl fmt::Display for Failure {
                 let of = command.map(|name| format!(" {name}")).unwrap_or_default();
                 write!(f, "tigbayon{of}: {problem}\nsee tigbayon{of} --help")
             }
-            Failure::Refused(refusal, part) => {
+            Failure::Refused {
+                refusal,
+                part,
+                below,
+            } => {
                 let (number, condition) = (refusal.number(), condition(*refusal));
                 write!(f, "refused {number}: {condition}")?;
-                part.iter().try_for_each(|part| write!(f, " ({part})"))
+                part.iter().try_for_each(|part| write!(f, " ({part})"))?;
+                below.iter().try_for_each(|line| write!(f, "\n{line}"))
             }
             Failure::Unwritten(what, error) => write!(f, "cannot write {what}: {error}"),
         }

@@ -14,9 +14,9 @@ Usage: tigbayon COMMAND ARGUMENTS [OPTIONS]
 ";
 
 const NOTES: &str = "\
-Bits are counted from 0 at the right. Words, masks and controls are hexadecimal,
-with 0x or without; all other numbers are decimal. Lists have commas between their
-entries, or spaces if quoted. In controls one means pass, zero means swap. The width
+Bits are counted from 0 at the right. Words, masks, controls and the enable byte are
+hexadecimal, with 0x or without; all other numbers are decimal. Lists have commas between
+their entries, or spaces if quoted. In controls one means pass, zero means swap. The width
 is w for short.
 ";
 

@@ -5,7 +5,8 @@
 pub enum Base {
     /// Counts, register numbers and entries of permutations.
     Decimal,
-    /// Words, masks and controls; `0x` before the digits may be left out.
+    /// Words, masks, controls and the enable byte; `0x` before the digits may be left
+    /// out.
     Hexadecimal,
 }
 

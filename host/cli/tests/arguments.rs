@@ -228,6 +228,31 @@ fn registers() {
     assert_unread(&["run", "", "--set", "1=2=3"], "WORD of --set is \"2=3\"");
 }
 
+/// Also where the run, or a register to set, would be refused.
+#[test]
+fn the_enable_byte() {
+    for run in [
+        ["run", "", "--budget", "0"],
+        ["run", "0,1,2", "--set", "16=1"],
+    ] {
+        let enabled = |options: &[&'static str]| [&run, options].concat();
+        for text in [
+            "", "0x", "100", "0x100", "G", "-1", "+1", "1,2", "1 2", "1=2",
+        ] {
+            let expected = "expected a hexadecimal number up to 0xFF";
+            let enable = format!("--enable is {text:?}, {expected}");
+            assert_unread(&enabled(&["--enable", text]), &enable);
+        }
+        let twice = "--enable is given twice";
+        assert_unread(&enabled(&["--enable", "1", "--enable=1"]), twice);
+        assert_unread(&enabled(&["--enable"]), "--enable needs BYTE");
+        let next = ["--enable", "--set", "2=1"];
+        assert_unread(&enabled(&next), "--enable needs BYTE");
+    }
+    let args = ["gather", "8", "1", "1", "--enable", "1"];
+    assert_unread(&args, "--enable is no option of gather");
+}
+
 #[test]
 fn too_few_and_too_many() {
     assert_unread(

@@ -10,6 +10,17 @@ const MEANS: [&[&str]; 4] = [&[], &["--butterfly"], &["--inverse"], &["--groups"
 
 /// Asserts that the call is refused so, and that nothing else is said.
 fn assert_refused(args: &[&str], refusal: Refusal) {
+    assert_refused_above(args, refusal, &[]);
+}
+
+/// Asserts that the run of this list is refused so, and that only its status is said below.
+fn assert_run_refused(list: &str, refusal: Refusal) {
+    let polled = "status 0x4 (refused), interrupt line low";
+    assert_refused_above(&["run", list], refusal, &[polled]);
+}
+
+/// Asserts that the call is refused so, and that only these lines are said below.
+fn assert_refused_above(args: &[&str], refusal: Refusal, below: &[&str]) {
     let Outcome {
         status,
         output,
@@ -18,7 +29,7 @@ fn assert_refused(args: &[&str], refusal: Refusal) {
     assert_eq!((status, output.as_str()), (2, ""), "{args:?}");
     let said = format!("refused {}: ", refusal.number());
     assert!(error.starts_with(&said), "{args:?}: {error}");
-    assert_eq!(error.lines().count(), 1, "{args:?}: {error}");
+    assert_eq!(Vec::from_iter(error.lines().skip(1)), below, "{args:?}");
 }
 
 #[test]
@@ -112,8 +123,8 @@ fn by_length() {
         assert_refused(&route("0,1,2,3,4,5,6,7,8"), Refusal::Length);
         assert_refused(&route(&list), Refusal::Length);
     }
-    assert_refused(&["run", "8,0,0,3,3"], Refusal::Length);
-    assert_refused(&["run", &list], Refusal::Length);
+    assert_run_refused("8,0,0,3,3", Refusal::Length);
+    assert_run_refused(&list, Refusal::Length);
 }
 
 #[test]
@@ -137,12 +148,22 @@ fn by_the_one_network() {
 #[test]
 fn by_kind_and_register() {
     for list in ["0,1,2,3", "11,1,2,3", "5,0,2,3", "5,5,2,3", "255,0,0,0"] {
-        assert_refused(&["run", list], Refusal::Kind);
+        assert_run_refused(list, Refusal::Kind);
     }
     for list in ["6,16,2,3", "6,1,16,3", "6,1,2,16", "5,1,2,255"] {
-        assert_refused(&["run", list], Refusal::Register);
+        assert_run_refused(list, Refusal::Register);
     }
-    assert_refused(&["run", "", "--set", "16=1"], Refusal::Register);
+}
+
+/// No run is made, even if it would be refused by a lower number.
+#[test]
+fn by_a_register_to_set() {
+    for list in ["", "1,1,2,0", "0,1,2,3", "8,0,0,3,3"] {
+        for set in ["16=1", "255=0"] {
+            let args = ["run", list, "--set", "15=1", "--set", set, "--enable", "FF"];
+            assert_refused(&args, Refusal::Register);
+        }
+    }
 }
 
 #[test]

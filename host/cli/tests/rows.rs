@@ -68,7 +68,7 @@ fn row_9_either_network_alone() {
 }
 
 /// The first lines that the run of rows 10 and 10b prints with this budget: how
-/// it ended, and the general registers.
+/// it ended, the status byte with the interrupt line, and the general registers.
 fn run_of_row_10(budget: u32) -> Vec<String> {
     let list = "8,0,0,3,3,1,2,3";
     let line = format!("run {list} --budget {budget} --set 2=0xB6 --set 3=0xAD");
@@ -81,9 +81,13 @@ fn run_of_row_10(budget: u32) -> Vec<String> {
 #[test]
 fn rows_10_and_10b_run() {
     let set = ["register 2 = 0xB6", "register 3 = 0xAD"];
-    let lines = ["done, 2 run, 3 cycles", "register 1 = 0x1A", set[0], set[1]];
+    let polled = "status 0x1 (done), interrupt line low";
+    let result = "register 1 = 0x1A";
+    let lines = ["done, 2 run, 3 cycles", polled, result, set[0], set[1]];
     assert_eq!(run_of_row_10(3), lines);
-    assert_eq!(run_of_row_10(2), ["spent, 1 run, 2 cycles", set[0], set[1]]);
+    let polled = "status 0x2 (spent), interrupt line low";
+    let lines = ["spent, 1 run, 2 cycles", polled, set[0], set[1]];
+    assert_eq!(run_of_row_10(2), lines);
 }
 
 #[test]
@@ -123,8 +127,12 @@ fn words_that_are_lent() {
 
 #[test]
 fn operations_in_one_argument_or_many() {
-    let printed = ["done, 1 run, 1 cycles", "register 1 = 0x8000000000000000"];
-    let lines = [printed[0], printed[1], "register 2 = 0x1"];
+    let lines = [
+        "done, 1 run, 1 cycles",
+        "status 0x1 (done), interrupt line low",
+        "register 1 = 0x8000000000000000",
+        "register 2 = 0x1",
+    ];
     for operations in ["1,1,2,0", "1 1 2 0", "1,1 2,0"] {
         assert_prints(&format!("run {operations} --set 2=1"), &lines);
     }

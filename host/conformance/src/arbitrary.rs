@@ -233,3 +233,13 @@ pub fn register(random: &mut Random) -> u8 {
         _ => random.below(17) as u8,
     }
 }
+
+/// A byte to enable or to acknowledge: one bit, those that are read or the others,
+/// none, all, or any.
+pub fn byte(random: &mut Random) -> u8 {
+    match random.below(4) {
+        0 => 1 << random.below(8),
+        1 => random.pick(&[0b111, !0b111, 0, 0xFF]),
+        _ => random.byte(),
+    }
+}

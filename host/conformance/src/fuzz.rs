@@ -2,7 +2,7 @@
 //! whole answer and in everything that is lent.
 
 use crate::arbitrary::{budget, controls, cut, end, length, list, operation, other_length};
-use crate::arbitrary::{permutation, plane, register, size, widths, word};
+use crate::arbitrary::{byte, permutation, plane, register, size, widths, word};
 use crate::call::{Call, BUTTERFLY, DECODE, GATHER, GROUP, INVERSE, SCATTER};
 use crate::call::{CHECK, EXCHANGE, EXCHECK, MIX_LEFT, MIX_RIGHT};
 use crate::call::{PREPARE_BUTTERFLY, PREPARE_INVERSE};
@@ -15,7 +15,7 @@ use crate::prepared::{Passage, THROUGH_BUTTERFLY, THROUGH_INVERSE};
 use crate::programs::bank;
 use crate::samples::{any_controls, any_eight, any_swaps, any_word, random_words, Random};
 use crate::tiles::{Movement, MIRROR_COLUMNS, MIRROR_ROWS, TRANSPOSE, TURN_LEFT, TURN_RIGHT};
-use crate::unit::{operate, read, run, write};
+use crate::unit::{acknowledge, enable, interrupt, operate, read, run, status, write};
 use crate::WIDTHS;
 use model::gather::Gathered;
 use model::prepared::Swaps;
@@ -36,7 +36,7 @@ struct Target {
     check: fn(&mut Random) -> u8,
 }
 
-const TARGETS: [Target; 33] = [
+const TARGETS: [Target; 37] = [
     target("gather", &[0, 1, 2], |random| masked(random, GATHER)),
     target("scatter", &[0, 1, 2], |random| masked(random, SCATTER)),
     target("group", &[0, 1, 2], |random| masked(random, GROUP)),
@@ -121,6 +121,22 @@ const TARGETS: [Target; 33] = [
     }),
     target("write", &[0, 8], |random| {
         write(&mut bank(random), register(random), random.word()).refusal
+    }),
+    target("status", &[0], |random| {
+        status(&bank(random));
+        NONE
+    }),
+    target("enable", &[0], |random| {
+        enable(&mut bank(random), byte(random));
+        NONE
+    }),
+    target("acknowledge", &[0], |random| {
+        acknowledge(&mut bank(random), byte(random));
+        NONE
+    }),
+    target("interrupt", &[0], |random| {
+        interrupt(&bank(random));
+        NONE
     }),
 ];
 

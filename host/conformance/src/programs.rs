@@ -1,7 +1,7 @@
 //! Banks, operations and lists of them, the same in every run.
 
 use crate::samples::Random;
-use crate::unit::{Bank, Operation};
+use crate::unit::{Bank, End, Operation};
 
 /// The most bytes of a list.
 pub const LONGEST: usize = 4_096;
@@ -34,6 +34,13 @@ pub const FORMS: [Form; 13] = [
     form(8, None, [false, false, true], 2),
     form(9, None, [false, false, true], 2),
     form(10, None, [true, true, true], 3),
+];
+
+/// A list for each end of a run with a budget of 0.
+pub const ENDS: [(End, &[u8]); 3] = [
+    (End::Done, &[]),
+    (End::Spent, &[1, 0, 0, 0]),
+    (End::Refused, &[0, 0, 0, 0]),
 ];
 
 const fn form(kind: u8, r1: Option<u8>, registers: [bool; 3], cycles: u32) -> Form {
@@ -87,7 +94,7 @@ pub fn cycles(list: &[u8]) -> u32 {
     figures.sum()
 }
 
-/// A bank of random, sparse and dense words.
+/// A bank of random, sparse and dense words, and any two bytes.
 pub fn bank(random: &mut Random) -> Bank {
     let mut word = || match random.below(4) {
         0 => random.word() & random.word() & random.word(),
@@ -98,6 +105,8 @@ pub fn bank(random: &mut Random) -> Bank {
         general: std::array::from_fn(|_| word()),
         b: std::array::from_fn(|_| word()),
         ib: std::array::from_fn(|_| word()),
+        status: random.byte(),
+        enable: random.byte(),
     }
 }
 

@@ -2,13 +2,14 @@
 
 use crate::call::assert_agree;
 use crate::guards::only_read;
-use model::refusal::Answer;
+use model::refusal::{Answer, NONE};
 pub use model::unit::{Bank, End, Operation, Run};
 use std::fmt::Debug;
 use tigbayon::{Refusal, TbBank, TbCycles, TbRegister, TbRun};
 
 /// Performs one operation all three ways, panics unless they agree in the
-/// answer and in every register, hands the answer back and leaves the bank so.
+/// answer, in every register and in both bytes, hands the answer back and leaves the
+/// bank so.
 pub fn operate(bank: &mut Bank, operation: Operation) -> Answer<u32> {
     let [kind, r1, r2, r3] = operation;
     let call = UnitCall {
@@ -52,9 +53,68 @@ pub fn write(bank: &mut Bank, number: u8, value: u64) -> Answer<()> {
     call.check(|| format!("write {number} {value:x}"), bank)
 }
 
-/// Checks that a call on the bank is refused by this number, with zeros for the
-/// rest, and leaves every register as it was; or, if the number is 0, that it
-/// is carried out.
+/// Reads the status byte, checked likewise; the bank must stay as it is.
+pub fn status(bank: &Bank) -> u8 {
+    let call = UnitCall {
+        raw: |bank: &mut TbBank| carried_out(tigbayon::tb_status(bank)),
+        wrapped: |bank: &mut tigbayon::Bank| Ok(bank.status()),
+        model: |bank: &mut Bank| carried_out(model::unit::status(bank)),
+    };
+    call.check(|| "status".into(), &mut bank.clone()).result
+}
+
+/// Writes the enable byte, checked likewise.
+pub fn enable(bank: &mut Bank, byte: u8) {
+    let call = UnitCall {
+        raw: |bank: &mut TbBank| {
+            tigbayon::tb_enable(bank, byte);
+            carried_out(())
+        },
+        wrapped: |bank: &mut tigbayon::Bank| {
+            bank.enable(byte);
+            Ok(())
+        },
+        model: |bank: &mut Bank| {
+            model::unit::enable(bank, byte);
+            carried_out(())
+        },
+    };
+    call.check(|| format!("enable {byte:x}"), bank);
+}
+
+/// Acknowledges status bits, checked likewise.
+pub fn acknowledge(bank: &mut Bank, byte: u8) {
+    let call = UnitCall {
+        raw: |bank: &mut TbBank| {
+            tigbayon::tb_acknowledge(bank, byte);
+            carried_out(())
+        },
+        wrapped: |bank: &mut tigbayon::Bank| {
+            bank.acknowledge(byte);
+            Ok(())
+        },
+        model: |bank: &mut Bank| {
+            model::unit::acknowledge(bank, byte);
+            carried_out(())
+        },
+    };
+    call.check(|| format!("acknowledge {byte:x}"), bank);
+}
+
+/// Answers whether the interrupt line is high, checked likewise: the library's number
+/// is 1 or 0. The bank must stay as it is.
+pub fn interrupt(bank: &Bank) -> bool {
+    let call = UnitCall {
+        raw: |bank: &mut TbBank| carried_out(tigbayon::tb_interrupt(bank)),
+        wrapped: |bank: &mut tigbayon::Bank| Ok(bank.interrupt().into()),
+        model: |bank: &mut Bank| carried_out(model::unit::interrupt(bank).into()),
+    };
+    call.check(|| "interrupt".into(), &mut bank.clone()).result == 1
+}
+
+/// Checks that a call on the bank, which is no run, is refused by this number, with
+/// zeros for the rest, and leaves the whole bank as it was; or, if the number is 0,
+/// that it is carried out.
 pub fn assert_number<R>(number: u8, bank: &Bank, call: impl FnOnce(&mut Bank) -> Answer<R>)
 where
     R: Debug + Default + PartialEq,
@@ -68,10 +128,51 @@ where
     }
 }
 
-/// The registers as the library has them.
+/// Checks that a run is refused by this number, with zeros for the rest, and sets
+/// status bit 2 and changes nothing else; or, if the number is 0, that it is carried
+/// out.
+pub fn assert_run_number(number: u8, bank: &Bank, list: &[u8], budget: u32) {
+    let mut after = *bank;
+    let answer = run(&mut after, list, budget);
+    assert_eq!(answer.refusal, number);
+    if number != 0 {
+        assert_eq!(answer, Answer::refused(number));
+        let expected = with_status(bank, status_bit(End::Refused));
+        assert_eq!(after, expected, "refusal {number}");
+    }
+}
+
+/// The bank with these status bits set.
+pub fn with_status(bank: &Bank, bits: u8) -> Bank {
+    let status = bank.status | bits;
+    Bank { status, ..*bank }
+}
+
+/// The status bit that a run which ends so sets.
+pub fn status_bit(end: End) -> u8 {
+    match end {
+        End::Done => 0b001,
+        End::Spent => 0b010,
+        End::Refused => 0b100,
+    }
+}
+
+/// The bank as the library has it.
 pub fn lent(bank: &Bank) -> tigbayon::Bank {
-    let Bank { general, b, ib } = *bank;
-    tigbayon::Bank { general, b, ib }
+    let Bank {
+        general,
+        b,
+        ib,
+        status,
+        enable,
+    } = *bank;
+    tigbayon::Bank {
+        general,
+        b,
+        ib,
+        status,
+        enable,
+    }
 }
 
 /// A call on a bank: as the archive exports it, as the wrapper offers it, and
@@ -118,6 +219,12 @@ fn guarded<A>(bank: &Bank, call: impl FnOnce(&mut TbBank) -> A) -> (A, TbBank) {
     let answer = call(&mut copy.1);
     assert_eq!([copy.0, copy.2], [NOT_LENT; 2]);
     (answer, copy.1)
+}
+
+/// The answer of a call that refuses nothing.
+fn carried_out<R>(result: R) -> Answer<R> {
+    let refusal = NONE;
+    Answer { refusal, result }
 }
 
 fn cycles(TbCycles { refusal, cycles }: TbCycles) -> Answer<u32> {

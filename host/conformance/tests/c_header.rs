@@ -106,18 +106,31 @@ const UNIT: &str = "\
     ends 0 1 2\n\
     write 0\n\
     write 0\n\
-    run 0 1 2 3: 1a\n\
-    run 0 2 1 2: 0\n\
-    run 4 0 0 0: 0\n\
-    run 0 1 0 0: 0\n\
-    run 0 2 0 0: 0\n\
-    operate 0 3: 7ffffffffffffffa\n\
-    operate 7 0: 7ffffffffffffffa\n\
-    operate 8 0: 7ffffffffffffffa\n\
+    run 0 1 2 3: 1a 1\n\
+    run 0 2 1 2: 0 2\n\
+    run 4 0 0 0: 0 6\n\
+    run 0 1 0 0: 0 7\n\
+    run 0 2 0 0: 0 7\n\
+    operate 0 3: 7ffffffffffffffa 7\n\
+    operate 7 0: 7ffffffffffffffa 7\n\
+    operate 8 0: 7ffffffffffffffa 7\n\
     read 0 ad\n\
     read 8 0\n\
     write 8\n\
     list: 8 0 0 3 3 1 2 3\n";
+
+/// What it prints of both bytes as they are held, of the status and of the line.
+const POLLING: &str = "\
+    statuses 1 2 4\n\
+    fresh: 0 0: 0 0\n\
+    enable: 0 f6: 0 0\n\
+    run: 1 f6: 1 0\n\
+    run: 5 f6: 5 1\n\
+    acknowledge: 1 f6: 1 0\n\
+    status: f8 f6: 0 0\n\
+    run: fc f6: 4 1\n\
+    enable: fc 1: 4 0\n\
+    acknowledge: 0 1: 0 0\n";
 
 /// How the command lines begin that compile C, C++, and C without its library.
 const C: [&str; 4] = ["cc", "-std=c99", "-x", "c"];
@@ -180,7 +193,7 @@ fn layouts() -> String {
         + &layout!(TbMasks, refusal, masks)
         + &layout!(TbPacked, refusal, count, bits)
         + &layout!(TbPlanes, words)
-        + &layout!(TbBank, general, b, ib)
+        + &layout!(TbBank, general, b, ib, status, enable)
         + &layout!(TbCycles, refusal, cycles)
         + &layout!(TbRun, refusal, end, ran, cycles)
         + &layout!(TbRegister, refusal, value)
@@ -218,7 +231,7 @@ fn expected() -> String {
         permutation 0 4 2 3 1 5 6 7\n";
     let numbers = format!("numbers 0{}\n", numbers.concat());
     let calls = [
-        GROUPS, PREPARED, PACKING, PLANES, TILES, SUBWORDS, PIXELS, UNIT,
+        GROUPS, PREPARED, PACKING, PLANES, TILES, SUBWORDS, PIXELS, UNIT, POLLING,
     ];
     layouts() + &numbers + answers + &calls.concat()
 }
@@ -240,6 +253,12 @@ fn in_c99() {
 #[test]
 fn in_cpp() {
     assert_eq!(interface(&CPP), expected());
+}
+
+/// What keeps a bank elsewhere goes by this.
+#[test]
+fn a_bank_has_both_bytes_after_its_registers() {
+    assert!(layouts().contains("TbBank 184 8: 0 128 152 176 177\n"));
 }
 
 /// The repository's README shows how to link; its program prints what it says.

@@ -3,7 +3,7 @@
 //! bit planes, the counts below, tiles and subwords: the library has none of them, and
 //! each would be seen. Group by a shift of 64 is among the laws and is row 13; those of
 //! request 06 are in `pixel_misreadings.rs`, those of request 08 in
-//! `group_misreadings.rs`.
+//! `group_misreadings.rs`, those of request 09 in `status_misreadings.rs`.
 
 use conformance::call::{decode, BUTTERFLY, GATHER, INVERSE, MASK_CALLS, NETWORKS, SCATTER};
 use conformance::call::{CHECK, EXCHANGE, EXCHECK, MIX_LEFT, MIX_RIGHT, PAIR_CALLS};

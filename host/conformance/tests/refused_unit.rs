@@ -1,9 +1,11 @@
 //! Damaged operations and lists get the lowest number that applies, zeros for
-//! the rest, and leave every register as it was.
+//! the rest, and leave the bank as it was, but for the status bit of a refused run.
 
 use conformance::programs::{bank, damage, each_form, program, refusal, Form, FORMS, LONGEST};
 use conformance::samples::Random;
-use conformance::unit::{assert_number, operate, read, run, write, Bank, Operation};
+use conformance::unit::{
+    assert_number, assert_run_number, operate, read, run, with_status, write, Bank, Operation,
+};
 
 const BUDGETS: [u32; 5] = [0, 1, 2, 3, u32::MAX];
 
@@ -19,8 +21,11 @@ const NO_KINDS: [Operation; 5] = [
     [5, 5, 16, 16],
 ];
 
+/// Its status bits 0 to 2 are zero, so that each would be seen to be set.
 fn some_bank() -> Bank {
-    bank(&mut Random::default())
+    let mut bank = bank(&mut Random::default());
+    bank.status &= !0b111;
+    bank
 }
 
 /// Checks an operation's number, alone and as a list.
@@ -32,7 +37,7 @@ fn assert_operation(number: u8, bank: &Bank, operation: Operation) {
 /// Checks a list's number, with a budget for nothing and one for all.
 fn assert_list(number: u8, bank: &Bank, list: &[u8]) {
     for budget in [0, u32::MAX] {
-        assert_number(number, bank, |bank| run(bank, list, budget));
+        assert_run_number(number, bank, list, budget);
     }
 }
 
@@ -88,7 +93,7 @@ fn bytes_not_used_do_not_matter() {
                 let (mut operated, mut ran) = (before, before);
                 assert_eq!(operate(&mut operated, other).result, form.cycles);
                 assert_eq!(run(&mut ran, &other, form.cycles).result.ran, 1);
-                assert_eq!([operated, ran], [expected; 2]);
+                assert_eq!([operated, ran], [expected, with_status(&expected, 0b001)]);
             }
         }
     }
@@ -122,7 +127,7 @@ fn random_lists_with_damaged_operations() {
         let number = numbers.min().unwrap_or(0);
         let budget = BUDGETS[random.below(5) as usize];
         let before = bank(&mut random);
-        assert_number(number, &before, |bank| run(bank, &list, budget));
+        assert_run_number(number, &before, &list, budget);
     }
 }
 
@@ -148,7 +153,7 @@ fn the_last_operation_is_checked_before_the_first_is_run() {
         for (number, damaged) in [(7, NO_KINDS[0]), (7, NO_KINDS[3]), (8, BEYOND)] {
             let list = [&good[..], &damaged].concat();
             for budget in BUDGETS {
-                assert_number(number, &bank, |bank| run(bank, &list, budget));
+                assert_run_number(number, &bank, &list, budget);
             }
         }
     }

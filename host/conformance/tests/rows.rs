@@ -1,9 +1,9 @@
 //! The rows of examples of paper 01, with the count that request 01 of paper 02
-//! puts beside their answers.
+//! puts beside their answers, and the status that request 09 gives their runs.
 
 use conformance::call::{decode, route, BUTTERFLY, GATHER, GROUP, ROUTE_ONE, SCATTER};
 use conformance::packing::PACK;
-use conformance::unit::{run, Bank, End, Run};
+use conformance::unit::{run, status, Bank, End, Run};
 use model::gather::Gathered;
 use model::packing::Packed;
 use model::refusal::Answer;
@@ -69,26 +69,26 @@ fn row_9_either_network_alone() {
 }
 
 /// The list of rows 10 and 10b, run on their unit with this budget: the answer,
-/// and register 1.
-fn run_of_row_10(budget: u32) -> (Run, u64) {
+/// register 1 and the status.
+fn run_of_row_10(budget: u32) -> (Run, u64, u8) {
     let mut bank = Bank::default();
     bank.general[2] = 0xB6;
     bank.general[3] = 0xAD;
     let answer = run(&mut bank, &[8, 0, 0, 3, 3, 1, 2, 3], budget);
     assert_eq!(answer.refusal, 0);
-    (answer.result, bank.general[1])
+    (answer.result, bank.general[1], status(&bank))
 }
 
 #[test]
 fn row_10_run() {
     let (end, ran, cycles) = (End::Done, 2, 3);
-    assert_eq!(run_of_row_10(3), (Run { end, ran, cycles }, 0x1A));
+    assert_eq!(run_of_row_10(3), (Run { end, ran, cycles }, 0x1A, 1));
 }
 
 #[test]
 fn row_10b_run_with_less() {
     let (end, ran, cycles) = (End::Spent, 1, 2);
-    assert_eq!(run_of_row_10(2), (Run { end, ran, cycles }, 0));
+    assert_eq!(run_of_row_10(2), (Run { end, ran, cycles }, 0, 2));
 }
 
 #[test]

@@ -1,7 +1,7 @@
 //! The stack that each exported call uses, at its deepest over many inputs.
 //! With `--nocapture` the bytes are printed.
 
-use conformance::arbitrary::{controls, cut, list, operation, permutation, plane};
+use conformance::arbitrary::{byte, controls, cut, list, operation, permutation, plane};
 use conformance::arbitrary::{register, size, widths, word};
 use conformance::packing::{clean_end, LONGEST};
 use conformance::permutations::{one_loop, FIXED};
@@ -16,13 +16,13 @@ use model::routing::valid_stage;
 use std::hint::black_box;
 use std::thread;
 use tigbayon::{
-    tb_butterfly, tb_butterfly_prepared, tb_check, tb_decode, tb_despeckle, tb_exchange,
-    tb_excheck, tb_from_planes, tb_gather, tb_group, tb_inverse, tb_inverse_prepared, tb_mix_left,
-    tb_mix_right, tb_operate, tb_pack, tb_prepare_butterfly, tb_prepare_inverse, tb_read, tb_route,
-    tb_route_butterfly, tb_route_groups, tb_route_inverse, tb_run, tb_scatter,
-    tb_tile_mirror_columns, tb_tile_mirror_rows, tb_tile_transpose, tb_tile_turn_left,
-    tb_tile_turn_right, tb_to_planes, tb_unpack, tb_write, TbCarried, TbGathered, TbPacked,
-    TbPlanes, TbPrepared,
+    tb_acknowledge, tb_butterfly, tb_butterfly_prepared, tb_check, tb_decode, tb_despeckle,
+    tb_enable, tb_exchange, tb_excheck, tb_from_planes, tb_gather, tb_group, tb_interrupt,
+    tb_inverse, tb_inverse_prepared, tb_mix_left, tb_mix_right, tb_operate, tb_pack,
+    tb_prepare_butterfly, tb_prepare_inverse, tb_read, tb_route, tb_route_butterfly,
+    tb_route_groups, tb_route_inverse, tb_run, tb_scatter, tb_status, tb_tile_mirror_columns,
+    tb_tile_mirror_rows, tb_tile_transpose, tb_tile_turn_left, tb_tile_turn_right, tb_to_planes,
+    tb_unpack, tb_write, TbCarried, TbGathered, TbPacked, TbPlanes, TbPrepared,
 };
 
 /// No call may use as many bytes.
@@ -51,7 +51,7 @@ impl Gauge {
 /// Measures a call once on each sort of input.
 type Measure = fn(&mut Gauge);
 
-const CALLS: [(&str, Measure); 34] = [
+const CALLS: [(&str, Measure); 38] = [
     ("(none)", |gauge| gauge.measure(|| ())),
     ("tb_gather", |gauge| masked(gauge, tb_gather)),
     ("tb_scatter", |gauge| masked(gauge, tb_scatter)),
@@ -136,6 +136,24 @@ const CALLS: [(&str, Measure); 34] = [
         let mut bank = lent(&bank(&mut gauge.random));
         let number = register(&mut gauge.random);
         gauge.measure(|| tb_write(&mut bank, number, !0));
+    }),
+    ("tb_status", |gauge| {
+        let bank = lent(&bank(&mut gauge.random));
+        gauge.measure(|| tb_status(&bank));
+    }),
+    ("tb_enable", |gauge| {
+        let mut bank = lent(&bank(&mut gauge.random));
+        let byte = byte(&mut gauge.random);
+        gauge.measure(|| tb_enable(&mut bank, byte));
+    }),
+    ("tb_acknowledge", |gauge| {
+        let mut bank = lent(&bank(&mut gauge.random));
+        let byte = byte(&mut gauge.random);
+        gauge.measure(|| tb_acknowledge(&mut bank, byte));
+    }),
+    ("tb_interrupt", |gauge| {
+        let bank = lent(&bank(&mut gauge.random));
+        gauge.measure(|| tb_interrupt(&bank));
     }),
 ];
 

@@ -1,5 +1,6 @@
 //! What the demands, paper 01 and request 01 of paper 02 say of the register unit,
-//! asked of the library.
+//! asked of the library; request 09, which sets a status bit by each run, in
+//! `status.rs`.
 
 use conformance::programs::{bank, cycles, program, FORMS};
 use conformance::samples::{for_each, for_each_permutation, Random};
@@ -13,6 +14,16 @@ type Outcome = Result<(), Refusal>;
 
 fn random_bank(random: &mut Random) -> Bank {
     lent(&bank(random))
+}
+
+/// The bank with the status bit set of a run that ended so.
+fn after_a_run(bank: Bank, end: End) -> Bank {
+    let bit = match end {
+        End::Done => 0b001,
+        End::Spent => 0b010,
+    };
+    let status = bank.status | bit;
+    Bank { status, ..bank }
 }
 
 /// Performs the operations one after the other and answers the sum of cycles.
@@ -52,7 +63,7 @@ fn a_run_with_an_ample_budget_is_its_operations_one_after_the_other() {
                 cycles
             }
         );
-        assert_eq!(ran, operated);
+        assert_eq!(ran, after_a_run(operated, end));
         Ok(())
     });
 }
@@ -66,7 +77,7 @@ fn a_run_is_its_first_operations_and_is_spent_if_the_next_does_not_fit() {
         let answer = ran.run(list, budget)?;
         let (first, left) = list.split_at(4 * answer.ran as usize);
         assert_eq!(operate_each(&mut operated, first)?, answer.cycles);
-        assert_eq!(ran, operated);
+        assert_eq!(ran, after_a_run(operated, answer.end));
         assert!(answer.cycles <= budget);
         match answer.end {
             End::Done => assert!(left.is_empty()),
@@ -86,7 +97,7 @@ fn a_spent_run_goes_on_with_what_is_left() {
         let second = parts.run(left, expected.cycles - first.cycles)?;
         assert_eq!(second.end, End::Done);
         assert_eq!(first.ran + second.ran, expected.ran);
-        assert_eq!(parts, whole);
+        assert_eq!(parts, after_a_run(whole, first.end));
         Ok(())
     });
 }
@@ -156,8 +167,8 @@ fn kinds_6_7_and_10_write_the_word_alone() -> Outcome {
             let answer = call(64, before.read(r3)?, before.read(r2)?)?;
             expected.write(r1, answer.word)?;
             operated.operate(kind, r1, r2, r3)?;
-            ran.run(&[kind, r1, r2, r3], 3)?;
-            assert_eq!((operated, ran), (expected, expected));
+            let end = ran.run(&[kind, r1, r2, r3], 3)?.end;
+            assert_eq!((operated, ran), (expected, after_a_run(expected, end)));
         }
     }
     Ok(())

@@ -1,5 +1,7 @@
-//! The register unit ("The register unit" of paper 01, request 01 of paper 02).
+//! The register unit ("The register unit" of paper 01, requests 01 and 09 of paper
+//! 02).
 
+use crate::bits::{bits_of, marked, word_of};
 use crate::decoder::decode;
 use crate::gather::{gather, group, scatter};
 use crate::network::{butterfly, inverse, Controls};
@@ -13,7 +15,8 @@ const WIDTH: u32 = 64;
 const LONGEST: usize = 4_096;
 
 /// "There are sixteen general registers 0 to 15 and six settings registers b1
-/// to b3, ib1 to ib3, each of 64 bits, all zero when fresh."
+/// to b3, ib1 to ib3, each of 64 bits, all zero when fresh." Paper 02: "The register
+/// bank gains a status byte and an enable byte, both zero when fresh."
 #[derive(Clone, Copy, Debug, Default, PartialEq, Eq)]
 pub struct Bank {
     /// The general registers.
@@ -22,6 +25,10 @@ pub struct Bank {
     pub b: [u64; 3],
     /// ib1 to ib3.
     pub ib: [u64; 3],
+    /// The status byte, as it is held.
+    pub status: u8,
+    /// The enable byte.
+    pub enable: u8,
 }
 
 /// "An operation is four bytes: kind, r1, r2, r3."
@@ -50,7 +57,8 @@ pub struct Run {
     pub cycles: u32,
 }
 
-/// "One operation alone answers its cycles."
+/// "One operation alone answers its cycles." Paper 02, of status and enable:
+/// "single operations, refused or not, touch neither byte."
 ///
 /// ```
 /// use model::unit::{operate, Bank};
@@ -71,8 +79,10 @@ pub fn operate(bank: &mut Bank, operation: Operation) -> Answer<u32> {
 /// "A run takes a list of operations and a budget, any 32-bit count. It goes
 /// on while the next operation's cycles fit in what is left."
 ///
+/// Paper 02: "A refused run thus touches status bit 2 and no other register".
+///
 /// ```
-/// use model::unit::{run, Bank, End, Run};
+/// use model::unit::{run, status, Bank, End, Run};
 ///
 /// // Rows 10 and 10b of paper 01.
 /// let list = [8, 0, 0, 3, 3, 1, 2, 3];
@@ -82,6 +92,7 @@ pub fn operate(bank: &mut Bank, operation: Operation) -> Answer<u32> {
 ///     let cycles = budget;
 ///     assert_eq!(run(&mut bank, &list, budget).result, Run { end, ran, cycles });
 ///     assert_eq!(bank.general[1], register_1);
+///     assert_eq!(status(&bank), if end == End::Done { 1 } else { 2 });
 /// }
 /// ```
 pub fn run(bank: &mut Bank, list: &[u8], budget: u32) -> Answer<Run> {
@@ -89,7 +100,7 @@ pub fn run(bank: &mut Bank, list: &[u8], budget: u32) -> Answer<Run> {
     let operations: Vec<Operation> = operations.map(|o| [o[0], o[1], o[2], o[3]]).collect();
     let [kind, register] = conditions(&operations);
     let length = list.len() % 4 != 0 || list.len() > LONGEST;
-    Answer::of(&[(LENGTH, length), kind, register], || {
+    let answer = Answer::of(&[(LENGTH, length), kind, register], || {
         let (mut ran, mut used) = (0, 0);
         for operation in operations {
             if cycles(operation) > budget - used {
@@ -102,7 +113,21 @@ pub fn run(bank: &mut Bank, list: &[u8], budget: u32) -> Answer<Run> {
         }
         let (end, cycles) = (End::Done, used);
         Run { end, ran, cycles }
-    })
+    });
+    set_status(bank, answer.result.end);
+    answer
+}
+
+/// "A run that ends done sets status bit 0, one that ends spent sets bit 1, and a
+/// refused run sets bit 2."
+fn set_status(bank: &mut Bank, end: End) {
+    let mut bits = byte_bits(bank.status);
+    match end {
+        End::Done => bits[0] = true,
+        End::Spent => bits[1] = true,
+        End::Refused => bits[2] = true,
+    }
+    bank.status = byte_of(&bits);
 }
 
 /// "The host may also read or write one general register by number; a read
@@ -117,6 +142,76 @@ pub fn write(bank: &mut Bank, number: u8, value: u64) -> Answer<()> {
     Answer::of(&[(REGISTER, number > 15)], || {
         bank.general[usize::from(number)] = value;
     })
+}
+
+/// "Status bits 3 to 7 read zero"
+///
+/// ```
+/// use model::unit::{status, Bank};
+///
+/// let bank = Bank { status: 0b1111_1101, ..Bank::default() };
+/// assert_eq!(status(&bank), 0b101);
+/// ```
+pub fn status(bank: &Bank) -> u8 {
+    let mut bits = byte_bits(bank.status);
+    bits[3..=7].fill(false);
+    byte_of(&bits)
+}
+
+/// "the host writes the enable byte"
+///
+/// ```
+/// use model::unit::{enable, Bank};
+///
+/// let mut bank = Bank { enable: 0b101, ..Bank::default() };
+/// enable(&mut bank, 0b1000_0001);
+/// assert_eq!(bank.enable, 0b1000_0001);
+/// ```
+pub fn enable(bank: &mut Bank, byte: u8) {
+    bank.enable = byte;
+}
+
+/// "Writing a byte to acknowledge clears the status bits where that byte has ones."
+///
+/// ```
+/// use model::unit::{acknowledge, Bank};
+///
+/// let mut bank = Bank { status: 0b011, ..Bank::default() };
+/// acknowledge(&mut bank, 0b110);
+/// assert_eq!(bank.status, 0b001);
+/// ```
+pub fn acknowledge(bank: &mut Bank, byte: u8) {
+    let mut bits = byte_bits(bank.status);
+    for p in marked(&byte_bits(byte)) {
+        bits[p] = false;
+    }
+    bank.status = byte_of(&bits);
+}
+
+/// "The interrupt line is high exactly when some bit is one in both bytes." Of the
+/// status byte these are the bits that it reads.
+///
+/// ```
+/// use model::unit::{interrupt, Bank};
+///
+/// let line = |status, enable| interrupt(&Bank { status, enable, ..Bank::default() });
+/// assert!(line(0b011, 0b110));
+/// assert!(!line(0b011, 0b100));
+/// assert!(!line(0b1000, 0b1000));
+/// ```
+pub fn interrupt(bank: &Bank) -> bool {
+    let (status, enable) = (byte_bits(status(bank)), byte_bits(bank.enable));
+    (0..8).any(|p| status[p] && enable[p])
+}
+
+/// The bits of a byte, bit 0 first.
+fn byte_bits(byte: u8) -> Vec<bool> {
+    bits_of(8, byte.into())
+}
+
+/// The byte with these bits.
+fn byte_of(bits: &[bool]) -> u8 {
+    word_of(bits) as u8
 }
 
 /// "kind not 1 to 10, or in kind 5 r1 not 1 to 4"; "a register number in use

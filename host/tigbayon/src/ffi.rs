@@ -260,6 +260,14 @@ unsafe extern "C" {
     pub safe fn tb_read(bank: &TbBank, number: u8) -> TbRegister;
     /// See [`crate::Bank::write()`].
     pub safe fn tb_write(bank: &mut TbBank, number: u8, value: u64) -> u8;
+    /// See [`crate::Bank::status()`].
+    pub safe fn tb_status(bank: &TbBank) -> u8;
+    /// See [`crate::Bank::enable()`].
+    pub safe fn tb_enable(bank: &mut TbBank, byte: u8);
+    /// See [`crate::Bank::acknowledge()`].
+    pub safe fn tb_acknowledge(bank: &mut TbBank, byte: u8);
+    /// See [`crate::Bank::interrupt()`].
+    pub safe fn tb_interrupt(bank: &TbBank) -> u8;
 }
 
 /// The calls of a permutation, of lists of words or of operations, which cross as

@@ -2,8 +2,8 @@
 
 use crate::{ffi, Refusal};
 
-/// The registers of a unit, which the host owns; fresh by default, that is all
-/// zero.
+/// The registers of a unit, which the host owns, with two bytes by which it polls how
+/// runs ended; fresh by default, that is all zero.
 ///
 /// An operation is four bytes: kind, r1, r2, r3. The registers that it uses are
 /// read before its result is written.
@@ -21,6 +21,9 @@ use crate::{ffi, Refusal};
 ///
 /// A byte that has no meaning there is not looked at. Kinds 6, 7 and 10 write the
 /// word alone, no count.
+///
+/// Only [`run`](Bank::run()) and [`acknowledge`](Bank::acknowledge()) change the status
+/// byte, only [`enable`](Bank::enable()) the enable byte.
 #[repr(C)]
 #[derive(Clone, Copy, Debug, Default, PartialEq, Eq, Hash)]
 pub struct Bank {
@@ -31,6 +34,10 @@ pub struct Bank {
     pub b: [u64; 3],
     /// The inverse's controls, held likewise.
     pub ib: [u64; 3],
+    /// The status byte, which [`status`](Bank::status()) reads; any byte is accepted.
+    pub status: u8,
+    /// The enable byte: the status bits for which the interrupt line is high.
+    pub enable: u8,
 }
 
 /// How a run ended.
@@ -55,8 +62,8 @@ pub struct Run {
 }
 
 impl Bank {
-    /// Performs one operation and answers its cycles. If it is refused, every
-    /// register stays as it was.
+    /// Performs one operation and answers its cycles. If it is refused, the whole
+    /// bank stays as it was.
     ///
     /// # Errors
     ///
@@ -80,7 +87,10 @@ impl Bank {
 
     /// Runs a list of operations, at most 4,096 bytes, as long as the next
     /// one's cycles fit in what is left of the budget. If any of them would be
-    /// refused, the run is, and every register stays as it was.
+    /// refused, the run is.
+    ///
+    /// Sets bit 0 of the status byte if it ends done, bit 1 if it ends spent, bit 2 if
+    /// it is refused, and leaves the others. A refused run changes nothing else.
     ///
     /// # Errors
     ///
@@ -98,13 +108,16 @@ impl Bank {
     /// let (end, ran, cycles) = (End::Done, 2, 3);
     /// assert_eq!(bank.run(&list, 3), Ok(Run { end, ran, cycles }));
     /// assert_eq!(bank.read(1), Ok(0x1A));
+    /// assert_eq!(bank.status(), 0b001);
     ///
     /// let mut bank = fresh;
     /// let (end, ran, cycles) = (End::Spent, 1, 2);
     /// assert_eq!(bank.run(&list, 2), Ok(Run { end, ran, cycles }));
     /// assert_eq!(bank.read(1), Ok(0));
+    /// assert_eq!(bank.status(), 0b010);
     ///
     /// assert_eq!(bank.run(&list[..5], 3), Err(Refusal::Length));
+    /// assert_eq!(bank.status(), 0b110);
     /// # Ok::<(), tigbayon::Refusal>(())
     /// ```
     pub fn run(&mut self, operations: &[u8], budget: u32) -> Result<Run, Refusal> {
@@ -127,8 +140,8 @@ impl Bank {
         ffi::tb_read(self, number).into()
     }
 
-    /// Writes a general register. If that is refused, every register stays as
-    /// it was.
+    /// Writes a general register. If that is refused, the whole bank stays as it
+    /// was.
     ///
     /// # Errors
     ///
@@ -144,6 +157,78 @@ impl Bank {
     /// ```
     pub fn write(&mut self, number: u8, value: u64) -> Result<(), Refusal> {
         Refusal::check(ffi::tb_write(self, number, value))
+    }
+
+    /// Reads the status byte: bit 0 is one if a run ended done, bit 1 if one ended
+    /// spent, bit 2 if one was refused, since the bit was last acknowledged. Bits 3 to
+    /// 7 read zero, whatever the byte holds. Nothing is refused.
+    ///
+    /// ```
+    /// use tigbayon::Bank;
+    ///
+    /// let mut bank = Bank::default();
+    /// assert_eq!(bank.status(), 0);
+    /// let _ = bank.run(&[], 0);
+    /// assert_eq!(bank.status(), 0b001);
+    /// let _ = bank.run(&[0, 0, 0, 0], 0);
+    /// assert_eq!(bank.status(), 0b101);
+    ///
+    /// bank.status = 0xFF;
+    /// assert_eq!(bank.status(), 0b111);
+    /// ```
+    pub fn status(&self) -> u8 {
+        ffi::tb_status(self)
+    }
+
+    /// Writes the enable byte, all its eight bits. Nothing is refused.
+    ///
+    /// ```
+    /// use tigbayon::Bank;
+    ///
+    /// let mut bank = Bank::default();
+    /// bank.enable(0b101);
+    /// assert_eq!(bank.enable, 0b101);
+    /// bank.enable(0b010);
+    /// assert_eq!(bank.enable, 0b010);
+    /// ```
+    pub fn enable(&mut self, byte: u8) {
+        ffi::tb_enable(self, byte);
+    }
+
+    /// Clears the status bits where `byte` has ones, all eight alike; the others stay
+    /// as they were. Nothing is refused.
+    ///
+    /// ```
+    /// use tigbayon::Bank;
+    ///
+    /// let mut bank = Bank { status: 0b111, ..Bank::default() };
+    /// bank.acknowledge(0b101);
+    /// assert_eq!(bank.status(), 0b010);
+    /// bank.acknowledge(bank.status());
+    /// assert_eq!(bank.status(), 0);
+    /// ```
+    pub fn acknowledge(&mut self, byte: u8) {
+        ffi::tb_acknowledge(self, byte);
+    }
+
+    /// Answers whether the interrupt line is high: whether some bit is one both in
+    /// what [`status`](Bank::status()) answers and in the enable byte. So bits 3 to 7
+    /// do not count. Nothing is refused.
+    ///
+    /// ```
+    /// use tigbayon::Bank;
+    ///
+    /// let mut bank = Bank::default();
+    /// bank.enable(0b100);
+    /// let _ = bank.run(&[], 0);
+    /// assert!(!bank.interrupt());
+    /// let _ = bank.run(&[0, 0, 0, 0], 0);
+    /// assert!(bank.interrupt());
+    /// bank.acknowledge(0b100);
+    /// assert!(!bank.interrupt());
+    /// ```
+    pub fn interrupt(&self) -> bool {
+        ffi::tb_interrupt(self) != 0
     }
 }
 

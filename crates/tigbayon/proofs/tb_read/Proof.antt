@@ -14,7 +14,7 @@ use denote.Struct.Laws as LL
 use denote.Triple.Walked.{Stays, stay-none-ref, stay-none, goes-none, goes-none-ref, ends-at}
 use denote.Exit.{yes}
 use Rattle.unit.specs.Calls.{readOf}
-use Rattle.tigbayon.proofs.Lent.{bankVal, contractOf, meets, alone, calling, shown-walk}
+use Rattle.tigbayon.proofs.Lent.{registersVal, contractOf, meets, alone, calling, shown-walk}
 use Rattle.unit.proofs.Bank as T
 use Rattle.unit.proofs.Register as R
 use Rattle.unit.proofs.Register.Laws as R′
@@ -42,11 +42,12 @@ tb-read-spec 𝓤 H 𝓜 𝓖 𝓡 =
     #unit·read core-def.routine code.calls-unit·read (contractOf 𝓤 H A core.ended given) (core-thm.met 𝓤 H 𝓜 𝓖 𝓡)
     (λ κs. (ptr-vals, (uint-vals w8, tt))) (λ κs. (shr-tells (named 0) (κs .0) T.the-row, (uint-tells w8, tt)))
     (λ C Λ fm known κs qs bounds a g are.
+    let k = a .0 .now in
     let n = a .1 .0 in
     let vss : Valss (u8 ∷ []) = (vint w8 n ∷ [], tt) in
-    -- _3 is the bank copied out
-    shown-walk W Λ fm (κs .0) (qs .0) (a .0 .name) (a .0 .now) (a .0 .ptr .0) (a .0 .ptr .1)
-    (calling W core.ended given known ((tt, tt, tt, (a .0 .now, a .1), (bankVal (a .0 .now) ∷ [], vss)), tt) (λ r. r ≡ readOf (a .0 .now) n) (λ r ws. id⊢ 𝓤 _)
+    -- _3 has the registers copied out
+    shown-walk W Λ fm (κs .0) (qs .0) (a .0 .name) k (a .0 .ptr .0) (a .0 .ptr .1)
+    (calling W core.ended given known ((tt, tt, tt, (k .registers, a .1), (registersVal (k .registers) ∷ [], vss)), tt) (λ r. r ≡ readOf (k .registers) n) (λ r ws. id⊢ 𝓤 _)
     (u8 ∷ []) (uint-copy 𝓤 H A W w8, tt) (a .1) vss (alone 𝓤 _))
     ((tyInt w8, vint w8 n) ∷ []) ((tt, record { fits = are .1 .0 .1 }), tt) refl code.function 3 refl refl (tt, tt)
     (λ l₀ l₁ lᵢ bs. ((refl, tt), refl)) (λ r v is. LL.lawful R.the-type R′.the-laws 𝓤 H A W .typed r _ is .0) _ _

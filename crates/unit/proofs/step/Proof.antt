@@ -6,8 +6,8 @@ use native.Mathlib.Omega.{arith}
 use native.Mathlib.Decide.{decLt}
 use borrow.Author.Needs.{needs}
 use Rattle.unit.specs.Bank.{register}
-use Rattle.unit.specs.Run.{operationAt}
-use Rattle.unit.specs.Lent.{bankOf}
+use Rattle.unit.specs.Operation.{operationAt}
+use Rattle.unit.specs.Lent.{registersOf}
 use Rattle.unit.proofs.LentRegisters.{row-1-4, row-2-3, row-5, row-6, row-7, row-8, row-9, row-10, row-none}
 use Rattle.unit.proofs.step.Statement.{statement}
 use Rattle.unit.proofs.step.Tie as tie
@@ -65,7 +65,7 @@ returns-8 : tie.Need-returns-8
 returns-8 c =
     let s = c .before .before .before .before .before .before .before .before .before .before .before in
     let a = s .args in
-    let k = bankOf (a .general .now) (a .b .now) (a .ib .now) in
+    let k = registersOf (a .general .now) (a .b .now) (a .ib .now) in
     let o = operationAt (a .ops .now) (a .at) in
     (row-none k (o .0) (o .1) (register k (o .2)) (register k (o .3)) (inl (omega arith)), s .pre .1, s .pre .2)
 
@@ -96,7 +96,7 @@ returns-10 c =
     let r = c .before .before .match .rest in
     let s = c .before .before .before .before .before .before .before .before .before .before .before .before in
     let a = s .args in
-    let k = bankOf (a .general .now) (a .b .now) (a .ib .now) in
+    let k = registersOf (a .general .now) (a .b .now) (a .ib .now) in
     let o = operationAt (a .ops .now) (a .at) in
     let n = o .0 in
     let past-seven = next n 7 (next n 6 (next n 5 (next n 4 (c .if2 .left) (λ q. r .0 .0 .0 .0 .0 .0 .1 (inr q))) (r .0 .0 .0 .0 .0 .1)) (r .0 .0 .0 .0 .1)) (r .0 .0 .0 .1) in

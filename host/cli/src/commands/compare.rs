@@ -175,7 +175,11 @@ fn carried(width: u32, set: &[Part], word: u64) -> Result<u64, Failure> {
     set.iter().try_fold(word, |word, part| {
         let refused = |refusal| {
             let unused = refusal == Refusal::Unused;
-            Failure::Refused(refusal, unused.then(|| part.name.clone()))
+            Failure::Refused {
+                refusal,
+                part: unused.then(|| part.name.clone()),
+                below: None,
+            }
         };
         (part.network.call)(width, &part.controls, word).map_err(refused)
     })

@@ -9,6 +9,9 @@ use tigbayon::{Bank, End, Refusal, Run};
 
 const OPERATIONS: &str = "OPERATIONS..";
 
+/// What the bits of the status byte tell of a run, from bit 0.
+const STATUS_BITS: [&str; 3] = ["done", "spent", "refused"];
+
 /// Run.
 pub const RUN: Command = Command {
     name: "run",
@@ -29,8 +32,14 @@ pub const RUN: Command = Command {
             "general register R, decimal, set to WORD, hexadecimal; again for more",
         )
         .repeated(),
+        Choice::valued(
+            "--enable",
+            "BYTE",
+            "the enable byte, hexadecimal, at most 0xFF; 0 by default",
+        ),
     ]],
-    notes: &["\
+    notes: &[
+        "\
 Kind  Does                                                           Cycles
   1   r1 = r2 through the butterfly at b                                  1
   2   r1 = r2 through the inverse at ib                                   1
@@ -43,16 +52,24 @@ Kind  Does                                                           Cycles
   8   ib = controls decoded from r3                                       2
   9   b = controls decoded from r3                                        2
  10   r1 = r2 grouped by r3                                               3
-
-Registers are set first, each by a call of its own. Prints how the run ended, and every
-register that is not zero then.
-"],
+",
+        "\
+Registers are set first, each by a call of its own, then the enable byte. Prints how the run
+ended, the status byte and the interrupt line, and every register that is not zero then.
+",
+        "\
+The status byte is 0x1 after a run that ends done, 0x2 after one that ends spent, 0x4 after
+one that is refused. The interrupt line is high exactly if the enable byte has a one at that
+bit. If the run is refused, both are printed below the refusal; if a --set is, no run is made.
+",
+    ],
     refusals: &[Refusal::Length, Refusal::Kind, Refusal::Register],
     examples: &[
         Example {
-            call: "run 8,0,0,3,3,1,2,3 --budget 3 --set 2=0xB6 --set 3=0xAD",
+            call: "run 8,0,0,3,3,1,2,3 --budget 3 --set 2=0xB6 --set 3=0xAD --enable 0x1",
             prints: "\
 done, 2 run, 3 cycles
+status 0x1 (done), interrupt line high
 register 1 = 0x1A
 register 2 = 0xB6
 register 3 = 0xAD
@@ -61,9 +78,10 @@ ib2 = 0x1F1F1F1FEEEEEEE7
 ib3 = 0x1F001F001F",
         },
         Example {
-            call: "run 8,0,0,3,3,1,2,3 --budget 2 --set 2=0xB6 --set 3=0xAD",
+            call: "run 8,0,0,3,3,1,2,3 --budget 2 --set 2=0xB6 --set 3=0xAD --enable 0x1",
             prints: "\
 spent, 1 run, 2 cycles
+status 0x2 (spent), interrupt line low
 register 2 = 0xB6
 register 3 = 0xAD
 ib1 = 0x55555551FFFFFFF5
@@ -74,13 +92,20 @@ ib3 = 0x1F001F001F",
             call: "run 10 1 2 3 --set 2=0xB6 --set 3=0xAD",
             prints: "\
 done, 1 run, 3 cycles
+status 0x1 (done), interrupt line low
 register 1 = 0x7A
 register 2 = 0xB6
 register 3 = 0xAD",
         },
         Example {
-            call: "run 0,1,2,3",
-            prints: "refused 7: kind not 1 to 10, or in kind 5 r1 not 1 to 4",
+            call: "run 0,1,2,3 --enable 0x4",
+            prints: "\
+refused 7: kind not 1 to 10, or in kind 5 r1 not 1 to 4
+status 0x4 (refused), interrupt line high",
+        },
+        Example {
+            call: "run 10 1 2 3 --set 16=0xB6",
+            prints: "refused 8: a register number in use above 15",
         },
     ],
     perform: run,
@@ -92,13 +117,27 @@ fn run(given: &Given) -> Result<Answer, Failure> {
         Some(text) => text.number(Base::Decimal)?,
         None => u32::MAX,
     };
+    let enable = match given.option("--enable") {
+        Some(text) => text.number(Base::Hexadecimal)?,
+        None => 0,
+    };
     let mut bank = Bank::default();
     for text in given.all("--set") {
         let (number, value) = text.pair(["R", "WORD"], [Base::Decimal, Base::Hexadecimal])?;
         bank.write(number, value)?;
     }
-    let run = bank.run(&operations, budget)?;
-    Ok(Answer::of(ended(run) + &registers(&bank)))
+    bank.enable(enable);
+    match bank.run(&operations, budget) {
+        Ok(run) => {
+            let lines = [ended(run), polled(&bank), registers(&bank)];
+            Ok(Answer::of(lines.join("\n")))
+        }
+        Err(refusal) => Err(Failure::Refused {
+            refusal,
+            part: None,
+            below: Some(polled(&bank)),
+        }),
+    }
 }
 
 /// How a run ended.
@@ -107,7 +146,18 @@ fn ended(run: Run) -> String {
         End::Done => "done",
         End::Spent => "spent",
     };
-    format!("{end}, {} run, {} cycles\n", run.ran, run.cycles)
+    format!("{end}, {} run, {} cycles", run.ran, run.cycles)
+}
+
+/// The status byte as it reads, and the interrupt line.
+fn polled(bank: &Bank) -> String {
+    let status = bank.status();
+    let bits = (0..).zip(STATUS_BITS);
+    let ones = bits.filter(|(bit, _)| status >> bit & 1 == 1);
+    let names = Vec::from_iter(ones.map(|(_, name)| name)).join(", ");
+    let line = if bank.interrupt() { "high" } else { "low" };
+    let status = hex(status.into());
+    format!("status {status} ({names}), interrupt line {line}")
 }
 
 /// A line for each register that is not zero.
@@ -125,4 +175,28 @@ fn registers(bank: &Bank) -> String {
         }
     }
     lines
+}
+
+#[cfg(test)]
+mod tests {
+    use super::*;
+
+    /// Bits 3 to 7 are not shown, and do not raise the line.
+    #[test]
+    fn the_status_is_shown_as_it_reads() {
+        for (status, enable, shown, line) in [
+            (0x1, 0x6, "0x1 (done)", "low"),
+            (0x5, 0x4, "0x5 (done, refused)", "high"),
+            (0xFF, 0x2, "0x7 (done, spent, refused)", "high"),
+            (0xFA, 0xF8, "0x2 (spent)", "low"),
+        ] {
+            let bank = Bank {
+                status,
+                enable,
+                ..Bank::default()
+            };
+            let expected = format!("status {shown}, interrupt line {line}");
+            assert_eq!(polled(&bank), expected);
+        }
+    }
 }

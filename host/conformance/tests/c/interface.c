@@ -26,8 +26,8 @@ static void print_layouts(void)
     printf("TbPacked %u %u: %u %u %u\n", LAYOUT(TbPacked), AT(TbPacked, refusal),
            AT(TbPacked, count), AT(TbPacked, bits));
     printf("TbPlanes %u %u: %u\n", LAYOUT(TbPlanes), AT(TbPlanes, words));
-    printf("TbBank %u %u: %u %u %u\n", LAYOUT(TbBank), AT(TbBank, general), AT(TbBank, b),
-           AT(TbBank, ib));
+    printf("TbBank %u %u: %u %u %u %u %u\n", LAYOUT(TbBank), AT(TbBank, general),
+           AT(TbBank, b), AT(TbBank, ib), AT(TbBank, status), AT(TbBank, enable));
     printf("TbCycles %u %u: %u %u\n", LAYOUT(TbCycles), AT(TbCycles, refusal),
            AT(TbCycles, cycles));
     printf("TbRun %u %u: %u %u %u %u\n", LAYOUT(TbRun), AT(TbRun, refusal), AT(TbRun, end),
@@ -290,14 +290,15 @@ static void print_pixels(void)
 
 static void print_run(TbRun answer, const TbBank *bank)
 {
-    printf("run %u %u %" PRIu32 " %" PRIu32 ": %" PRIx64 "\n", (unsigned)answer.refusal,
-           (unsigned)answer.end, answer.ran, answer.cycles, bank->general[1]);
+    printf("run %u %u %" PRIu32 " %" PRIu32 ": %" PRIx64 " %x\n", (unsigned)answer.refusal,
+           (unsigned)answer.end, answer.ran, answer.cycles, bank->general[1],
+           (unsigned)bank->status);
 }
 
 static void print_operated(TbCycles answer, const TbBank *bank)
 {
-    printf("operate %u %" PRIu32 ": %" PRIx64 "\n", (unsigned)answer.refusal, answer.cycles,
-           bank->general[1]);
+    printf("operate %u %" PRIu32 ": %" PRIx64 " %x\n", (unsigned)answer.refusal, answer.cycles,
+           bank->general[1], (unsigned)bank->status);
 }
 
 static void print_register(TbRegister answer)
@@ -307,7 +308,7 @@ static void print_register(TbRegister answer)
 
 static void print_unit(void)
 {
-    const TbBank fresh = {{0}, {0}, {0}};
+    const TbBank fresh = {{0}, {0}, {0}, 0, 0};
     uint8_t list[8] = {8, 0, 0, 3, 3, 1, 2, 3};
     TbBank bank = fresh;
     TbBank other;
@@ -331,6 +332,38 @@ static void print_unit(void)
     printf("write %u\n", (unsigned)tb_write(&bank, 16, 7));
     printf("list:");
     print_bytes(list);
+}
+
+static void print_polled(const char *call, const TbBank *bank)
+{
+    printf("%s: %x %x: %x %u\n", call, (unsigned)bank->status, (unsigned)bank->enable,
+           (unsigned)tb_status(bank), (unsigned)tb_interrupt(bank));
+}
+
+static void print_polling(void)
+{
+    const TbBank fresh = {{0}, {0}, {0}, 0, 0};
+    const uint8_t no_kind[4] = {0, 0, 0, 0};
+    TbBank bank = fresh;
+
+    printf("statuses %d %d %d\n", TB_STATUS_DONE, TB_STATUS_SPENT, TB_STATUS_REFUSED);
+    print_polled("fresh", &fresh);
+    tb_enable(&bank, 0xF0 | TB_STATUS_SPENT | TB_STATUS_REFUSED);
+    print_polled("enable", &bank);
+    tb_run(&bank, NULL, 0, 0);
+    print_polled("run", &bank);
+    tb_run(&bank, no_kind, 4, 0);
+    print_polled("run", &bank);
+    tb_acknowledge(&bank, TB_STATUS_REFUSED);
+    print_polled("acknowledge", &bank);
+    bank.status = 0xF8;
+    print_polled("status", &bank);
+    tb_run(&bank, no_kind, 4, 0);
+    print_polled("run", &bank);
+    tb_enable(&bank, TB_STATUS_DONE);
+    print_polled("enable", &bank);
+    tb_acknowledge(&bank, 0xFF);
+    print_polled("acknowledge", &bank);
 }
 
 int main(void)
@@ -369,5 +402,6 @@ int main(void)
     print_subwords();
     print_pixels();
     print_unit();
+    print_polling();
     return 0;
 }

@@ -1,22 +1,23 @@
--- `unit::carry_out` meets its contract. Assumes nothing.
+-- `runs::carry_out` meets its contract. Assumes nothing.
 use mathlib.Core.Path.{_≡_, refl}
 use mathlib.Core.Bool.{true, false}
 use Prim.Native.Nat.{_+_, _-_, _*_, _<_, _≤_}
 use borrow.Author.Needs.{needs}
 use lib.ListN.{length, drop, replicate}
-use Rattle.unit.specs.Run.{operationAt, operationsOf}
-use Rattle.unit.specs.Lent.{bankOf, Sized, KeptNetwork}
-use Rattle.unit.proofs.OperationLists.{operations-next, operations-end}
+use Rattle.unit.specs.Operation.{operationAt}
+use Rattle.runs.specs.Run.{operationsOf}
+use Rattle.unit.specs.Lent.{registersOf, Sized, KeptNetwork}
+use Rattle.runs.proofs.OperationLists.{operations-next, operations-end}
 use Rattle.unit.proofs.LentRegisters.{sized-after}
 use Rattle.unit.proofs.KeptNetworks.{kept-is}
-use Rattle.unit.proofs.Runs.{Going, going-none, going-next, going-spent, going-done}
-use Rattle.unit.proofs.carry_out.Statement.{statement}
-use Rattle.unit.proofs.carry_out.Tie as tie
+use Rattle.runs.proofs.Runs.{Going, going-none, going-next, going-spent, going-done}
+use Rattle.runs.proofs.carry_out.Statement.{statement}
+use Rattle.runs.proofs.carry_out.Tie as tie
 
 abbrev Inv-loop : tie.InvT-loop
 Inv-loop general₀ b₀ ib₀ ops budget falling₀ rising₀ left₀ ran₀ at₀ general b ib falling rising left ran at =
     (at ≤ length ops) × (at ≡ ran * 4) × Sized general b ib × KeptNetwork false falling × KeptNetwork true rising
-    × Going (bankOf general₀ b₀ ib₀) (operationsOf ops) budget (bankOf general b ib) left ran (operationsOf (drop at ops))
+    × Going (registersOf general₀ b₀ ib₀) (operationsOf ops) budget (registersOf general b ib) left ran (operationsOf (drop at ops))
 
 abbrev μ-loop : tie.MeasureT-loop
 μ-loop general₀ b₀ ib₀ ops budget falling₀ rising₀ left₀ ran₀ at₀ general b ib falling rising left ran at = length ops - at
@@ -48,7 +49,7 @@ loop-again c =
     let h : l .at + 3 < length ops = search needs in
     let g = rw (operations-next ops (l .at) h) at (l .inv .5) in
     let e = c .step .ensures .0 in
-    (search needs, search needs, sized-after (bankOf (l .general) (l .b) (l .ib)) (operationAt ops (l .at)) (l .inv .2) e, c .step .ensures .1, c .step .ensures .2, going-next g (b .cycles-of .ensures) (search needs) e)
+    (search needs, search needs, sized-after (registersOf (l .general) (l .b) (l .ib)) (operationAt ops (l .at)) (l .inv .2) e, c .step .ensures .1, c .step .ensures .2, going-next g (b .cycles-of .ensures) (search needs) e)
 
 returns-2 : tie.Need-returns-2 Inv-loop μ-loop
 returns-2 c =

@@ -1,10 +1,10 @@
--- `unit::run_refusal` meets its contract. Assumes nothing.
+-- `runs::run_refusal` meets its contract. Assumes nothing.
 use mathlib.Core.Path.{refl, sym}
 use borrow.Author.Needs.{needs}
 use borrow.Author.Tests.{eq-eqb, ne-eqb, le-leb, lt-leb}
-use Rattle.unit.proofs.OperationLists.{run-refusal-by}
-use Rattle.unit.proofs.run_refusal.Statement.{statement}
-use Rattle.unit.proofs.run_refusal.Tie as tie
+use Rattle.runs.proofs.OperationLists.{run-refusal-by}
+use Rattle.runs.proofs.run_refusal.Statement.{statement}
+use Rattle.runs.proofs.run_refusal.Tie as tie
 
 returns : tie.Need-returns
 returns c = let a = c .before .before .args in sym (run-refusal-by (a .ops .now) (ne-eqb _ _ (c .if1 .taken)) refl refl)

@@ -1,14 +1,15 @@
--- `unit::operations_refusal` meets its contract. Assumes nothing.
+-- `runs::operations_refusal` meets its contract. Assumes nothing.
 use mathlib.Core.Path.{_≡_, refl, sym}
 use mathlib.Core.List.{[], _∷_}
 use Prim.Native.Nat.{_+_, _-_, _%_, _<_, _≤_}
 use borrow.Author.Needs.{needs}
 use borrow.Author.Tests.{not-true, not-false}
 use lib.ListN.{length, drop}
-use Rattle.unit.specs.Run.{operationAt, operationsOf}
-use Rattle.unit.proofs.OperationLists.{operations-next, operations-end, Sofar, sofar-none, sofar-next, sofar-kind, sofar-all}
-use Rattle.unit.proofs.operations_refusal.Statement.{statement}
-use Rattle.unit.proofs.operations_refusal.Tie as tie
+use Rattle.unit.specs.Operation.{operationAt}
+use Rattle.runs.specs.Run.{operationsOf}
+use Rattle.runs.proofs.OperationLists.{operations-next, operations-end, Sofar, sofar-none, sofar-next, sofar-kind, sofar-all}
+use Rattle.runs.proofs.operations_refusal.Statement.{statement}
+use Rattle.runs.proofs.operations_refusal.Tie as tie
 
 abbrev Inv-loop : tie.InvT-loop
 Inv-loop ops registers₀ at₀ registers at = (at ≤ length ops) × (at % 4 ≡ 0) × Sofar (operationsOf ops) registers (operationsOf (drop at ops))

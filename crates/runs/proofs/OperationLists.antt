@@ -10,8 +10,8 @@ use lib.Seq.{drop-cons}
 use borrow.Author.Tests.{eqb-true, leb-true, not-false}
 use Rattle.bits.specs.Refusal.{lowest}
 use Rattle.bits.proofs.Refusals.{NoneApplies, none-applies, neither}
-use Rattle.unit.specs.Operation.{isKind, usedOf, areRegisters}
-use Rattle.unit.specs.Run.{Operation, operationAt, operationsOf, anyKind, anyRegister, operationsRefusal, runConditions, runRefusal}
+use Rattle.unit.specs.Operation.{isKind, usedOf, areRegisters, Operation, operationAt}
+use Rattle.runs.specs.Run.{operationsOf, anyKind, anyRegister, operationsRefusal, runConditions, runRefusal}
 
 module _ (bytes : List ℕ) (i : ℕ) where
   pub operations-next : i + 3 < length bytes → operationsOf (drop i bytes) ≡ operationAt bytes i ∷ operationsOf (drop (i + 4) bytes)

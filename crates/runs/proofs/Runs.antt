@@ -6,9 +6,9 @@ use Prim.Native.Nat.{ℕ, suc, _+_, _-_, _<_, _≤_}
 use native.Mathlib.Omega.{arith}
 use lib.ListN.{length, take}
 use borrow.Author.Tests.{le-leb, lt-leb, lt-ltb, le-ltb}
-use Rattle.unit.specs.declared.Bank.{Bank}
-use Rattle.unit.specs.Operation.{cyclesOf}
-use Rattle.unit.specs.Run.{Operation, stepBy, stepsOf, sumOf, ranOf, endedOf, outcomeOf}
+use Rattle.unit.specs.declared.Registers.{Registers}
+use Rattle.unit.specs.Operation.{cyclesOf, Operation, stepBy}
+use Rattle.runs.specs.Run.{stepsOf, sumOf, ranOf, endedOf, outcomeOf}
 
 module _ (left : ℕ) (o : Operation) (os : List Operation) where
   pub ran-fits : cyclesOf (o .0) ≤ left → ranOf left (o ∷ os) ≡ suc (ranOf (left - cyclesOf (o .0)) os)
@@ -20,22 +20,22 @@ module _ (left : ℕ) (o : Operation) (os : List Operation) where
   ran-stops h = ap (λ (b : Bool). cond b (suc (ranOf (left - cyclesOf (o .0)) os)) 0) (lt-leb (cyclesOf (o .0)) left h)
 
 -- After n operations of a run on k by os, with `rest` still to come: the bank is j and `left` is left of the budget, and to go on from there comes to the whole run.
-pub record Going (k : Bank) (os : List Operation) (budget : ℕ) (j : Bank) (left n : ℕ) (rest : List Operation) : Type 0 where
+pub record Going (k : Registers) (os : List Operation) (budget : ℕ) (j : Registers) (left n : ℕ) (rest : List Operation) : Type 0 where
   pub within : left ≤ budget
   pub counts : n + ranOf left rest ≡ ranOf budget os
   pub sums : (budget - left) + sumOf (take (ranOf left rest) rest) ≡ sumOf (take (ranOf budget os) os)
   pub banks : stepsOf j (take (ranOf left rest) rest) ≡ stepsOf k (take (ranOf budget os) os)
   pub lengths : n + length rest ≡ length os
 
-pub going-none : {k : Bank} {os : List Operation} {budget : ℕ} → Going k os budget k budget 0 os
+pub going-none : {k : Registers} {os : List Operation} {budget : ℕ} → Going k os budget k budget 0 os
 going-none = record { within = omega arith; counts = omega arith; sums = omega arith; banks = refl; lengths = omega arith }
 
-ended : {e f n m c d : ℕ} {j i : Bank} → e ≡ f → n ≡ m → c ≡ d → j ≡ i → endedOf e n c j ≡ endedOf f m d i
+ended : {e f n m c d : ℕ} {j i : Registers} → e ≡ f → n ≡ m → c ≡ d → j ≡ i → endedOf e n c j ≡ endedOf f m d i
 ended p q r s = rw (p, q, r, s)
 
-module _ {k : Bank} {os : List Operation} {budget : ℕ} {j : Bank} {left n : ℕ} where
+module _ {k : Registers} {os : List Operation} {budget : ℕ} {j : Registers} {left n : ℕ} where
   pub going-next : {o : Operation} {rest : List Operation} → Going k os budget j left n (o ∷ rest) → {c : ℕ} → c ≡ cyclesOf (o .0) → c ≤ left
-      → {i : Bank} → i ≡ stepBy j o → Going k os budget i (left - c) (n + 1) rest
+      → {i : Registers} → i ≡ stepBy j o → Going k os budget i (left - c) (n + 1) rest
   unfolding sumOf stepsOf
   going-next {o} {rest} h {c} e l {i} f =
       let m = ranOf (left - cyclesOf (o .0)) rest in

@@ -1,17 +1,17 @@
--- `unit::run_on` meets its contract. Assumes nothing.
+-- `runs::run_on` meets its contract. Assumes nothing.
 use mathlib.Core.Path.{sym, _∙_}
 use borrow.Author.Needs.{needs}
 use borrow.Author.Tests.{eq-eqb, ne-eqb}
-use Rattle.unit.specs.Run.{runOf}
-use Rattle.unit.proofs.OperationLists.{run-within}
-use Rattle.unit.proofs.run_on.Statement.{statement}
-use Rattle.unit.proofs.run_on.Tie as tie
+use Rattle.runs.specs.Run.{performOf}
+use Rattle.runs.proofs.OperationLists.{run-within}
+use Rattle.runs.proofs.run_on.Statement.{statement}
+use Rattle.runs.proofs.run_on.Tie as tie
 
 run-refusal-requires : tie.Need-run-refusal-requires
 run-refusal-requires c κs = search needs
 
 returns : tie.Need-returns
-unfolding runOf
+unfolding performOf
 returns c = rw (← c .before .run-refusal .ensures, ne-eqb _ _ (c .if1 .taken))
 
 carry-out-requires : tie.Need-carry-out-requires
@@ -22,7 +22,7 @@ carry-out-requires c κs =
     (s .pre, w .0, w .1)
 
 returns-2 : tie.Need-returns-2
-unfolding runOf
+unfolding performOf
 returns-2 c =
     let b = c .before .before .before .before in
     rw (← b .before .run-refusal .ensures, eq-eqb _ _ (b .if1 .left), c .carry-out .ensures)

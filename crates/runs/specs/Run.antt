@@ -1,19 +1,19 @@
--- A run of the register unit, paper 01: a list of operations and a budget. Assumes nothing.
+-- A run of the register unit, paper 01: a list of operations and a budget; paper 02, Req 09: the status bit that it sets. Assumes nothing.
 use Prim.Native.Nat.{ℕ, suc, _+_, _-_, _%_}
 use mathlib.Core.Bool.{Bool, false, not, cond, _||_}
 use mathlib.Core.List.{List, [], _∷_}
 use lib.Dec.{eqb, leb, ltb}
-use lib.ListN.{length, getD, take}
+use lib.ListN.{length, take}
 use Rattle.bits.specs.Refusal.{lowest}
+use Rattle.unit.specs.declared.Registers.{Registers}
 use Rattle.unit.specs.declared.Bank.{Bank}
-use Rattle.unit.specs.declared.Outcome.{Outcome}
-use Rattle.unit.specs.declared.Ran.{Ran}
-use Rattle.unit.specs.Operation.{cyclesOf, isKind, usedOf, areRegisters, stepOf}
+use Rattle.unit.specs.Bank.{withStatus, withRegisters, leaving}
+use Rattle.unit.specs.Operation.{cyclesOf, isKind, usedOf, areRegisters, Operation, stepBy}
+use Rattle.runs.specs.declared.Outcome.{Outcome}
+use Rattle.runs.specs.declared.Ran.{Ran}
+use Rattle.runs.specs.StatusByte.{withBit}
 
--- "An operation is four bytes: kind, r1, r2, r3."
-abbrev pub Operation : Type 0
-Operation = ℕ × ℕ × ℕ × ℕ
-
+-- the operations of a list: four bytes each
 unfoldable pub operationsOf : List ℕ → List Operation
 operationsOf [] = []
 operationsOf (kind ∷ []) = []
@@ -21,16 +21,8 @@ operationsOf (kind ∷ r1 ∷ []) = []
 operationsOf (kind ∷ r1 ∷ r2 ∷ []) = []
 operationsOf (kind ∷ r1 ∷ r2 ∷ r3 ∷ bytes) = (kind, r1, r2, r3) ∷ operationsOf bytes
 
--- the operation at byte i of a list
-abbrev pub operationAt : List ℕ → ℕ → Operation
-operationAt bytes i = (getD bytes i 0, getD bytes (i + 1) 0, getD bytes (i + 2) 0, getD bytes (i + 3) 0)
-
--- the bank after an operation
-abbrev pub stepBy : Bank → Operation → Bank
-stepBy k o = stepOf k (o .0) (o .1) (o .2) (o .3)
-
--- one after the other
-unfoldable pub stepsOf : Bank → List Operation → Bank
+-- the registers after operations, one after the other
+unfoldable pub stepsOf : Registers → List Operation → Registers
 stepsOf k [] = k
 stepsOf k (o ∷ os) = stepsOf (stepBy k o) os
 
@@ -72,22 +64,39 @@ runRefusal bytes = lowest (runConditions bytes)
 abbrev pub endOf : ℕ → List Operation → ℕ
 endOf ran os = cond (ltb ran (length os)) 2 1
 
--- an answer and the bank beside it
-abbrev pub ranAt : Outcome → Bank → Ran
-ranAt a k = record { run = a; bank = k }
+-- an answer and the registers beside it
+abbrev pub ranAt : Outcome → Registers → Ran
+ranAt a k = record { run = a; registers = k }
 
-abbrev pub endedOf : ℕ → ℕ → ℕ → Bank → Ran
-endedOf e n cycles k = record { run = record { refusal = 0; «end» = e; ran = n; cycles = cycles }; bank = k }
+abbrev pub endedOf : ℕ → ℕ → ℕ → Registers → Ran
+endedOf e n cycles k = record { run = record { refusal = 0; «end» = e; ran = n; cycles = cycles }; registers = k }
 
--- A run that is carried out and stops after n operations: done or spent, the operations run, the sum of their cycles, and the bank after them.
-abbrev pub outcomeOf : Bank → List Operation → ℕ → Ran
+-- A run that is carried out and stops after n operations: done or spent, the operations run, the sum of their cycles, and the registers after them.
+abbrev pub outcomeOf : Registers → List Operation → ℕ → Ran
 outcomeOf k os n = endedOf (endOf n os) n (sumOf (take n os)) (stepsOf k (take n os))
 
-abbrev pub refusedOf : Bank → ℕ → Ran
-refusedOf k r = record { run = record { refusal = r; «end» = 0; ran = 0; cycles = 0 }; bank = k }
+abbrev pub refusedOf : Registers → ℕ → Ran
+refusedOf k r = record { run = record { refusal = r; «end» = 0; ran = 0; cycles = 0 }; registers = k }
 
-unfoldable pub runOf : Bank → List ℕ → ℕ → Ran
-runOf k bytes budget =
+-- the run of paper 01, which knows of no status
+unfoldable pub performOf : Registers → List ℕ → ℕ → Ran
+performOf k bytes budget =
     cond (eqb (runRefusal bytes) 0)
     (outcomeOf k (operationsOf bytes) (ranOf budget (operationsOf bytes)))
     (refusedOf k (runRefusal bytes))
+
+-- "A run that ends done sets status bit 0, one that ends spent sets bit 1, and a refused run sets bit 2": the bit of each end, 1 done, 2 spent, else refused
+abbrev pub statusBit : ℕ → ℕ
+statusBit e = cond (eqb e 1) 0 (cond (eqb e 2) 1 2)
+
+-- "A refused run thus touches status bit 2 and no other register"
+abbrev pub noted : Ran → Ran
+noted r = ranAt (r .run) (withStatus (r .registers) (withBit (r .registers .status) (statusBit (r .run .«end»))))
+
+-- a run, with its status bit set
+unfoldable pub runOf : Registers → List ℕ → ℕ → Ran
+runOf k bytes budget = noted (performOf k bytes budget)
+
+-- on a lent bank
+abbrev pub runLent : Bank → List ℕ → ℕ → Outcome × Bank
+runLent k bytes budget = leaving (runOf (k .registers) bytes budget .run) (withRegisters k (runOf (k .registers) bytes budget .registers))

@@ -1,0 +1,196 @@
+-- Req 09, the status byte and the interrupt line: what holds of them after every call. Assumes nothing.
+use mathlib.Core.Path.{_≡_, refl, sym, _∙_, ap, subst⁻¹}
+use mathlib.Core.Bool.{Bool, true, false, cond}
+use mathlib.Core.List.{List, [], _∷_}
+use mathlib.Core.Logic.{_⊎_, inl, inr, _↔_}
+use Prim.Native.Nat.{ℕ, _%_, _<_, _≤_}
+use native.Mathlib.Omega.{arith}
+use native.Mathlib.Decide.{decLt}
+use lib.Dec.{T, eqb}
+use borrow.Author.Tests.{eq-eqb, ne-eqb, eqb-true}
+use Rattle.bits.specs.Bit.{bit, ofBits}
+use Rattle.bits.proofs.Word.{bit-mod-two, bit-above, fits-bits, bit-ofBits, ofBits-lt, ofBits-same, ext}
+use Rattle.unit.specs.declared.Registers.{Registers}
+use Rattle.unit.specs.declared.Bank.{Bank}
+use Rattle.unit.specs.Bank.{fresh, freshBank, withStatus, withEnable}
+use Rattle.unit.proofs.Carried.{operate-bytes, write-bytes}
+use Rattle.runs.specs.StatusByte.{withBit, statusOf, cleared, acknowledgeOf, someBoth, interruptOf, BothOne}
+use Rattle.runs.specs.Run.{performOf, statusBit, runOf}
+use Rattle.runs.specs.BankCalls.{BankCall, callLook, callOperate, callRun, callWrite, callEnable, callAcknowledge, leftBy, leftByAll}
+use Rattle.runs.proofs.StatusBits.{bit-with-bit, bit-cleared, bit-status, status-lt, some-of, some-both}
+use Rattle.runs.proofs.BytesKept.{perform-status, perform-enable}
+
+-- The line is high exactly if some bit is one both in the status as it reads and in the enable byte; else it is low.
+pub interrupt-exactly : (k : Registers) → (interruptOf k ≡ 1) ↔ BothOne (statusOf k) (k .enable)
+unfolding interruptOf
+interrupt-exactly k = (λ e. some-of 8 (statusOf k) (k .enable) (is-true (someBoth 8 (statusOf k) (k .enable)) e), λ o. ap (λ (b : Bool). cond b 1 0) (some-both 8 (statusOf k) (k .enable) (omega (arith, status-lt k)) o))
+  where
+    is-true : (b : Bool) → _≡_ {A = ℕ} (cond b 1 0) 1 → b ≡ true
+    is-true true e = refl
+    is-true false e = absurd (omega arith)
+
+pub interrupt-low : (k : Registers) → (interruptOf k ≡ 1 → ⊥) → interruptOf k ≡ 0
+unfolding interruptOf
+interrupt-low k n = by-test (someBoth 8 (statusOf k) (k .enable)) n
+  where
+    by-test : (b : Bool) → (_≡_ {A = ℕ} (cond b 1 0) 1 → ⊥) → _≡_ {A = ℕ} (cond b 1 0) 0
+    by-test true f = absurd (f refl)
+    by-test false f = refl
+
+-- A fresh bank's line is low.
+pub fresh-low : interruptOf fresh ≡ 0
+unfolding interruptOf someBoth statusOf ofBits bit
+fresh-low = refl
+
+-- After acknowledging 0xFF it is low.
+pub acknowledged-low : (k : Registers) → interruptOf (acknowledgeOf k 0xFF) ≡ 0
+unfolding interruptOf someBoth statusOf cleared ofBits bit
+acknowledged-low k = refl
+
+-- Acknowledging twice is acknowledging once.
+pub acknowledge-twice : (k : Registers) (m : ℕ) → acknowledgeOf (acknowledgeOf k m) m ≡ acknowledgeOf k m
+unfolding cleared
+acknowledge-twice k m = ap (withStatus k) twice
+  where
+    by-test : (i : ℕ) (b : Bool) {t : ℕ} → t ≡ cond b 0 (bit (k .status) i) → cond b 0 t ≡ cond b 0 (bit (k .status) i)
+    by-test i true e = refl
+    by-test i false e = e
+
+    twice : cleared (cleared (k .status) m) m ≡ cleared (k .status) m
+    twice =
+        ofBits-same 8 (λ i. cond (eqb (bit m i) 1) 0 (bit (cleared (k .status) m) i)) (λ i. cond (eqb (bit m i) 1) 0 (bit (k .status) i))
+        (λ i l. by-test i (eqb (bit m i) 1) (bit-cleared (k .status) m i l))
+
+-- Worked by hand: all of 0xFF reads 7; bit 2 set, also where it is one; bits 0 and 2 cleared of 0xF7, all of 7; the line by status 5 and 3 on enable 4, and by
+-- bits 3 to 7, which it does not see.
+abbrev bytes : ℕ → ℕ → Registers
+bytes s e = withEnable (withStatus fresh s) e
+
+pub hand-status : statusOf (bytes 0xFF 0) ∷ withBit 0x41 2 ∷ withBit 0x45 2 ∷ cleared 0xF7 0x05 ∷ cleared 0x07 0xFF ∷ interruptOf (bytes 5 4) ∷ interruptOf (bytes 3 4) ∷ interruptOf (bytes 0xF8 0xFF) ∷ []
+    ≡ 7 ∷ 0x45 ∷ 0x45 ∷ 0xF2 ∷ 0 ∷ 1 ∷ 0 ∷ 0 ∷ []
+unfolding interruptOf someBoth statusOf withBit cleared ofBits bit
+hand-status = refl
+
+-- After a run
+
+-- Of every run, refused or not: the status byte has the bit of its end set and the other seven bits as they were stored, the enable byte is as it was.
+pub run-bytes : (k : Registers) (bytes : List ℕ) (budget : ℕ) → let r = runOf k bytes budget in
+    (r .registers .status ≡ withBit (k .status) (statusBit (r .run .«end»))) × (r .registers .enable ≡ k .enable)
+unfolding runOf
+run-bytes k bytes budget =
+    (ap (λ (s : ℕ). withBit s (statusBit (performOf k bytes budget .run .«end»))) (perform-status k bytes budget), perform-enable k bytes budget)
+
+bit-lt-three : (e : ℕ) → statusBit e < 3
+bit-lt-three e = by-tests (eqb e 1) (eqb e 2)
+  where
+    by-tests : (a b : Bool) → cond a 0 (cond b 1 2) < 3
+    by-tests true b = omega arith
+    by-tests false true = omega arith
+    by-tests false false = omega arith
+
+-- the status as it reads, with a bit of the three set
+bit-noted : (k : Registers) (n i : ℕ) → n < 3 → bit (statusOf (withStatus k (withBit (k .status) n))) i ≡ cond (eqb i n) 1 (bit (statusOf k) i)
+bit-noted k n i h = by-test (decLt i 3)
+  where
+    j : Registers
+    j = withStatus k (withBit (k .status) n)
+
+    by-test : Dec (i < 3) → bit (statusOf j) i ≡ cond (eqb i n) 1 (bit (statusOf k) i)
+    by-test (yes l) =
+        bit-status j i l ∙ bit-with-bit (k .status) n i (omega arith) ∙ ap (λ (b : ℕ). cond (eqb i n) 1 b) (sym (bit-status k i l))
+    by-test (no l) =
+        let p : bit (statusOf j) i ≡ 0 = bit-above {w = 3} i (status-lt j) (omega arith) in
+        let q : bit (statusOf k) i ≡ 0 = bit-above {w = 3} i (status-lt k) (omega arith) in
+        let r : eqb i n ≡ false = ne-eqb i n (λ e. omega arith) in
+        rw (p, q, r)
+
+-- After a run, refused or not, the line is high exactly if it was high before or the bit of its end is enabled.
+pub run-line : (k : Registers) (bytes : List ℕ) (budget : ℕ) → let r = runOf k bytes budget in
+    (interruptOf (r .registers) ≡ 1) ↔ ((interruptOf k ≡ 1) ⊎ (bit (k .enable) (statusBit (r .run .«end»)) ≡ 1))
+unfolding runOf statusOf
+run-line k bytes budget = (λ e. to (interrupt-exactly j .0 e), λ s. interrupt-exactly j .1 (from s))
+  where
+    p : Registers
+    p = performOf k bytes budget .registers
+
+    n : ℕ
+    n = statusBit (performOf k bytes budget .run .«end»)
+
+    j : Registers
+    j = withStatus p (withBit (p .status) n)
+
+    same : statusOf p ≡ statusOf k
+    same = ap (λ (s : ℕ). ofBits 3 (λ i. bit s i)) (perform-status k bytes budget)
+
+    at : (i : ℕ) → bit (statusOf j) i ≡ cond (eqb i n) 1 (bit (statusOf k) i)
+    at i = bit-noted p n i (bit-lt-three (performOf k bytes budget .run .«end»)) ∙ ap (λ (s : ℕ). cond (eqb i n) 1 (bit s i)) same
+
+    to : BothOne (statusOf j) (p .enable) → (interruptOf k ≡ 1) ⊎ (bit (k .enable) n ≡ 1)
+    to o = by-test (eqb (o .place) n) refl (sym (at (o .place)) ∙ o .in-first)
+      where
+        enabled : bit (k .enable) (o .place) ≡ 1
+        enabled = ap (λ (e : ℕ). bit e (o .place)) (sym (perform-enable k bytes budget)) ∙ o .in-second
+
+        by-test : (b : Bool) → eqb (o .place) n ≡ b → cond b 1 (bit (statusOf k) (o .place)) ≡ 1 → (interruptOf k ≡ 1) ⊎ (bit (k .enable) n ≡ 1)
+        by-test true e h = inr (ap (bit (k .enable)) (sym (eqb-true (o .place) n e)) ∙ enabled)
+        by-test false e h = inl (interrupt-exactly k .1 (record { place = o .place; in-first = h; in-second = enabled }))
+
+    from : (interruptOf k ≡ 1) ⊎ (bit (k .enable) n ≡ 1) → BothOne (statusOf j) (p .enable)
+    from (inr h) = record { place = n; in-first = at n ∙ ap (λ (b : Bool). cond b 1 (bit (statusOf k) n)) (eq-eqb n n refl); in-second = ap (λ (e : ℕ). bit e n) (perform-enable k bytes budget) ∙ h }
+    from (inl h) = stays (interrupt-exactly k .0 h)
+      where
+        one : (b : Bool) {d : ℕ} → d ≡ 1 → cond b 1 d ≡ 1
+        one true e = refl
+        one false e = e
+
+        stays : BothOne (statusOf k) (k .enable) → BothOne (statusOf j) (p .enable)
+        stays o = record { place = o .place; in-first = at (o .place) ∙ one (eqb (o .place) n) (o .in-first); in-second = ap (λ (e : ℕ). bit e (o .place)) (perform-enable k bytes budget) ∙ o .in-second }
+
+-- A stored status below 8
+
+-- a byte whose bits 3 to 7 are zero
+below-8 : (f : ℕ → ℕ) → ((i : ℕ) → 3 ≤ i → f i % 2 ≡ 0) → ofBits 8 f < 8
+below-8 f z = fits-bits 3 (ofBits 8 f) .1 (λ i l. by-test i l (decLt i 8))
+  where
+    by-test : (i : ℕ) → 3 ≤ i → Dec (i < 8) → bit (ofBits 8 f) i ≡ 0
+    by-test i l (yes h) = bit-ofBits 8 f i h ∙ z i l
+    by-test i l (no h) = bit-above {w = 8} i (ofBits-lt 8 f) (omega arith)
+
+with-bit-below : (s n : ℕ) → s < 8 → n < 3 → withBit s n < 8
+unfolding withBit
+with-bit-below s n h l =
+    below-8 (λ i. cond (eqb i n) 1 (bit s i))
+    (λ i j. ap (λ (b : Bool). cond b 1 (bit s i) % 2) (ne-eqb i n (λ e. omega arith)) ∙ bit-mod-two s i ∙ bit-above {w = 3} i h j)
+
+cleared-below : (s m : ℕ) → s < 8 → cleared s m < 8
+unfolding cleared
+cleared-below s m h = below-8 (λ i. cond (eqb (bit m i) 1) 0 (bit s i)) (λ i j. by-test i (eqb (bit m i) 1) (bit-above {w = 3} i h j))
+  where
+    by-test : (i : ℕ) (b : Bool) → bit s i ≡ 0 → cond b 0 (bit s i) % 2 ≡ 0
+    by-test i true e = refl
+    by-test i false e = rw e
+
+-- Every call leaves a stored status below 8 below 8.
+pub status-below : (k : Bank) (c : BankCall) → k .registers .status < 8 → leftBy k c .registers .status < 8
+unfolding leftBy runOf
+status-below k callLook h = h
+status-below k (callOperate kind r1 r2 r3) h = subst⁻¹ (λ (s : ℕ). s < 8) (operate-bytes (k .registers) kind r1 r2 r3 .0) h
+status-below k (callRun bytes budget) h =
+    let p = performOf (k .registers) bytes budget in
+    subst⁻¹ (λ (s : ℕ). s < 8) (run-bytes (k .registers) bytes budget .0) (with-bit-below (k .registers .status) (statusBit (p .run .«end»)) h (bit-lt-three (p .run .«end»)))
+status-below k (callWrite n v) h = subst⁻¹ (λ (s : ℕ). s < 8) (write-bytes (k .registers) n v .0) h
+status-below k (callEnable e) h = h
+status-below k (callAcknowledge m) h = cleared-below (k .registers .status) m h
+
+-- Then the field itself reads as the status does.
+status-stored : (k : Registers) → k .status < 8 → statusOf k ≡ k .status
+status-stored k h = ext 3 (status-lt k) h (λ i l. bit-status k i l)
+
+stays-below : (k : Bank) (cs : List BankCall) → k .registers .status < 8 → leftByAll k cs .registers .status < 8
+unfolding leftByAll
+stays-below k [] h = h
+stays-below k (c ∷ cs) h = stays-below (leftBy k c) cs (status-below k c h)
+
+-- So from a fresh bank, after whatever calls, the field itself reads as the status does.
+pub status-reads : (cs : List BankCall) → let k = leftByAll freshBank cs in statusOf (k .registers) ≡ k .registers .status
+status-reads cs = status-stored (leftByAll freshBank cs .registers) (stays-below freshBank cs (omega arith))

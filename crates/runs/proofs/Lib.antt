@@ -1,0 +1,6 @@
+pub mod OperationLists
+pub mod Runs
+pub mod StatusBits
+pub mod BytesKept
+pub mod Theorems
+pub mod Interrupts

@@ -1,0 +1,3 @@
+pub mod StatusByte
+pub mod Run
+pub mod BankCalls
