@@ -2,11 +2,11 @@
 use mathlib.Core.Path.{_≡_, refl, sym, _∙_, ap, subst⁻¹}
 use mathlib.Core.Bool.{Bool, true, false, cond}
 use mathlib.Core.List.{List, [], _∷_}
-use mathlib.Core.Logic.{_⊎_, inl, inr, _↔_}
+use mathlib.Core.Logic.{_⊎_, inl, inr, ⊎-elim, _↔_}
 use Prim.Native.Nat.{ℕ, _%_, _<_, _≤_}
 use native.Mathlib.Omega.{arith}
 use native.Mathlib.Decide.{decLt}
-use lib.Dec.{T, eqb}
+use lib.Dec.{eqb}
 use borrow.Author.Tests.{eq-eqb, ne-eqb, eqb-true}
 use Rattle.bits.specs.Bit.{bit, ofBits}
 use Rattle.bits.proofs.Word.{bit-mod-two, bit-above, fits-bits, bit-ofBits, ofBits-lt, ofBits-same, ext}
@@ -88,63 +88,53 @@ bit-lt-three e = by-tests (eqb e 1) (eqb e 2)
     by-tests false true = omega arith
     by-tests false false = omega arith
 
--- the status as it reads, with a bit of the three set
-bit-noted : (k : Registers) (n i : ℕ) → n < 3 → bit (statusOf (withStatus k (withBit (k .status) n))) i ≡ cond (eqb i n) 1 (bit (statusOf k) i)
-bit-noted k n i h = by-test (decLt i 3)
-  where
-    j : Registers
-    j = withStatus k (withBit (k .status) n)
+-- Registers j whose status is that of k with a bit of the three set, and whose enable byte is that of k
+module _ (k j : Registers) (n : ℕ) (h : n < 3) (e : j .status ≡ withBit (k .status) n) (f : j .enable ≡ k .enable) where
+  bit-noted : (i : ℕ) → bit (statusOf j) i ≡ cond (eqb i n) 1 (bit (statusOf k) i)
+  bit-noted i = by-test (decLt i 3)
+    where
+      by-test : Dec (i < 3) → bit (statusOf j) i ≡ cond (eqb i n) 1 (bit (statusOf k) i)
+      by-test (yes l) =
+          bit-status j i l ∙ ap (λ (s : ℕ). bit s i) e ∙ bit-with-bit (k .status) n i (omega arith) ∙ ap (λ (b : ℕ). cond (eqb i n) 1 b) (sym (bit-status k i l))
+      by-test (no l) =
+          let p : bit (statusOf j) i ≡ 0 = bit-above {w = 3} i (status-lt j) (omega arith) in
+          let q : bit (statusOf k) i ≡ 0 = bit-above {w = 3} i (status-lt k) (omega arith) in
+          let r : eqb i n ≡ false = ne-eqb i n (λ t. omega arith) in
+          rw (p, q, r)
 
-    by-test : Dec (i < 3) → bit (statusOf j) i ≡ cond (eqb i n) 1 (bit (statusOf k) i)
-    by-test (yes l) =
-        bit-status j i l ∙ bit-with-bit (k .status) n i (omega arith) ∙ ap (λ (b : ℕ). cond (eqb i n) 1 b) (sym (bit-status k i l))
-    by-test (no l) =
-        let p : bit (statusOf j) i ≡ 0 = bit-above {w = 3} i (status-lt j) (omega arith) in
-        let q : bit (statusOf k) i ≡ 0 = bit-above {w = 3} i (status-lt k) (omega arith) in
-        let r : eqb i n ≡ false = ne-eqb i n (λ e. omega arith) in
-        rw (p, q, r)
+  enabled-alike : (i : ℕ) → bit (j .enable) i ≡ bit (k .enable) i
+  enabled-alike i = ap (λ (m : ℕ). bit m i) f
+
+  was-or-set : BothOne (statusOf j) (j .enable) → (interruptOf k ≡ 1) ⊎ (bit (k .enable) n ≡ 1)
+  was-or-set o = by-test (eqb (o .place) n) refl (sym (bit-noted (o .place)) ∙ o .in-first)
+    where
+      enabled : bit (k .enable) (o .place) ≡ 1
+      enabled = sym (enabled-alike (o .place)) ∙ o .in-second
+
+      by-test : (b : Bool) → eqb (o .place) n ≡ b → cond b 1 (bit (statusOf k) (o .place)) ≡ 1 → (interruptOf k ≡ 1) ⊎ (bit (k .enable) n ≡ 1)
+      by-test true t one = inr (ap (bit (k .enable)) (sym (eqb-true (o .place) n t)) ∙ enabled)
+      by-test false t one = inl (interrupt-exactly k .1 (record { place = o .place; in-first = one; in-second = enabled }))
+
+  stays : BothOne (statusOf k) (k .enable) → BothOne (statusOf j) (j .enable)
+  stays o = record { place = o .place; in-first = bit-noted (o .place) ∙ one (eqb (o .place) n) (o .in-first); in-second = enabled-alike (o .place) ∙ o .in-second }
+    where
+      one : (b : Bool) {d : ℕ} → d ≡ 1 → cond b 1 d ≡ 1
+      one true t = refl
+      one false t = t
+
+  raised : bit (k .enable) n ≡ 1 → BothOne (statusOf j) (j .enable)
+  raised t = record { place = n; in-first = bit-noted n ∙ ap (λ (b : Bool). cond b 1 (bit (statusOf k) n)) (eq-eqb n n refl); in-second = enabled-alike n ∙ t }
+
+  noted-line : (interruptOf j ≡ 1) ↔ ((interruptOf k ≡ 1) ⊎ (bit (k .enable) n ≡ 1))
+  noted-line = (λ t. was-or-set (interrupt-exactly j .0 t), ⊎-elim (λ t. interrupt-exactly j .1 (stays (interrupt-exactly k .0 t))) (λ t. interrupt-exactly j .1 (raised t)))
 
 -- After a run, refused or not, the line is high exactly if it was high before or the bit of its end is enabled.
 pub run-line : (k : Registers) (bytes : List ℕ) (budget : ℕ) → let r = runOf k bytes budget in
     (interruptOf (r .registers) ≡ 1) ↔ ((interruptOf k ≡ 1) ⊎ (bit (k .enable) (statusBit (r .run .«end»)) ≡ 1))
-unfolding runOf statusOf
-run-line k bytes budget = (λ e. to (interrupt-exactly j .0 e), λ s. interrupt-exactly j .1 (from s))
-  where
-    p : Registers
-    p = performOf k bytes budget .registers
-
-    n : ℕ
-    n = statusBit (performOf k bytes budget .run .«end»)
-
-    j : Registers
-    j = withStatus p (withBit (p .status) n)
-
-    same : statusOf p ≡ statusOf k
-    same = ap (λ (s : ℕ). ofBits 3 (λ i. bit s i)) (perform-status k bytes budget)
-
-    at : (i : ℕ) → bit (statusOf j) i ≡ cond (eqb i n) 1 (bit (statusOf k) i)
-    at i = bit-noted p n i (bit-lt-three (performOf k bytes budget .run .«end»)) ∙ ap (λ (s : ℕ). cond (eqb i n) 1 (bit s i)) same
-
-    to : BothOne (statusOf j) (p .enable) → (interruptOf k ≡ 1) ⊎ (bit (k .enable) n ≡ 1)
-    to o = by-test (eqb (o .place) n) refl (sym (at (o .place)) ∙ o .in-first)
-      where
-        enabled : bit (k .enable) (o .place) ≡ 1
-        enabled = ap (λ (e : ℕ). bit e (o .place)) (sym (perform-enable k bytes budget)) ∙ o .in-second
-
-        by-test : (b : Bool) → eqb (o .place) n ≡ b → cond b 1 (bit (statusOf k) (o .place)) ≡ 1 → (interruptOf k ≡ 1) ⊎ (bit (k .enable) n ≡ 1)
-        by-test true e h = inr (ap (bit (k .enable)) (sym (eqb-true (o .place) n e)) ∙ enabled)
-        by-test false e h = inl (interrupt-exactly k .1 (record { place = o .place; in-first = h; in-second = enabled }))
-
-    from : (interruptOf k ≡ 1) ⊎ (bit (k .enable) n ≡ 1) → BothOne (statusOf j) (p .enable)
-    from (inr h) = record { place = n; in-first = at n ∙ ap (λ (b : Bool). cond b 1 (bit (statusOf k) n)) (eq-eqb n n refl); in-second = ap (λ (e : ℕ). bit e n) (perform-enable k bytes budget) ∙ h }
-    from (inl h) = stays (interrupt-exactly k .0 h)
-      where
-        one : (b : Bool) {d : ℕ} → d ≡ 1 → cond b 1 d ≡ 1
-        one true e = refl
-        one false e = e
-
-        stays : BothOne (statusOf k) (k .enable) → BothOne (statusOf j) (p .enable)
-        stays o = record { place = o .place; in-first = at (o .place) ∙ one (eqb (o .place) n) (o .in-first); in-second = ap (λ (e : ℕ). bit e (o .place)) (perform-enable k bytes budget) ∙ o .in-second }
+run-line k bytes budget =
+    let r = runOf k bytes budget in
+    let b = run-bytes k bytes budget in
+    noted-line k (r .registers) (statusBit (r .run .«end»)) (bit-lt-three (r .run .«end»)) (b .0) (b .1)
 
 -- A stored status below 8
 
@@ -172,12 +162,12 @@ cleared-below s m h = below-8 (λ i. cond (eqb (bit m i) 1) 0 (bit s i)) (λ i j
 
 -- Every call leaves a stored status below 8 below 8.
 pub status-below : (k : Bank) (c : BankCall) → k .registers .status < 8 → leftBy k c .registers .status < 8
-unfolding leftBy runOf
+unfolding leftBy
 status-below k callLook h = h
 status-below k (callOperate kind r1 r2 r3) h = subst⁻¹ (λ (s : ℕ). s < 8) (operate-bytes (k .registers) kind r1 r2 r3 .0) h
 status-below k (callRun bytes budget) h =
-    let p = performOf (k .registers) bytes budget in
-    subst⁻¹ (λ (s : ℕ). s < 8) (run-bytes (k .registers) bytes budget .0) (with-bit-below (k .registers .status) (statusBit (p .run .«end»)) h (bit-lt-three (p .run .«end»)))
+    let e = runOf (k .registers) bytes budget .run .«end» in
+    subst⁻¹ (λ (s : ℕ). s < 8) (run-bytes (k .registers) bytes budget .0) (with-bit-below (k .registers .status) (statusBit e) h (bit-lt-three e))
 status-below k (callWrite n v) h = subst⁻¹ (λ (s : ℕ). s < 8) (write-bytes (k .registers) n v .0) h
 status-below k (callEnable e) h = h
 status-below k (callAcknowledge m) h = cleared-below (k .registers .status) m h

@@ -1,15 +1,15 @@
 -- The status byte bit by bit, and by the steps of the code. Assumes nothing.
-use mathlib.Core.Path.{_≡_, refl, sym, _∙_, ap, ap₂, subst}
+use mathlib.Core.Path.{_≡_, refl, sym, _∙_, ap, subst}
 use mathlib.Core.Bool.{Bool, true, false, cond, _&&_, _||_}
 use mathlib.Core.Logic.{_⊎_, inl, inr}
-use Prim.Native.Nat.{ℕ, zero, suc, _-_, _%_, _^_, _<_, _≤_, min, max}
+use Prim.Native.Nat.{ℕ, zero, suc, _-_, _%_, _^_, _<_, min, max}
 use native.Mathlib.Omega.{arith}
 use native.Mathlib.Nat.{mod-lt}
 use native.Mathlib.Decide.{decLt}
 use lib.Bits.{bitAnd, bitOr, and-le-l, or-lt}
 use lib.Dec.{T, eqb}
 use borrow.Author.Tests.{eq-eqb, eqb-true}
-use Rattle.bits.specs.Bit.{bit, ofBits}
+use Rattle.bits.specs.Bit.{bit}
 use Rattle.bits.proofs.Word.{bit-lt, bit-cases, bit-mod-two, bit-above, bit-of-zero, bit-mod, bit-and, bit-or, bit-not, bit-pow, bit-ofBits, ofBits-lt, ext}
 use Rattle.unit.specs.declared.Registers.{Registers}
 use Rattle.runs.specs.StatusByte.{withBit, statusOf, cleared, someBoth, BothOne}

@@ -27,7 +27,7 @@ use ghost.Atoms.{Atoms, sem}
 use contract.Lifetimes.{Lfts, Shares, AllOutlive}
 use contract.Monad.{fact}
 use contract.Running.{Running, GhostRules, givenOf, tables, tablesOf}
-use types.Kit.{Goal, Post, prop, atRet, runs, lands, allocs, params′, passes, frees, Step, step, Seq, Soaks, Given, Item, mean, nth, del, pull, unpull, ‵, raw, ⋆, some as any, later, _⊛_, _$_, _∵_, !, qed, by, move, drop, split, split3, join, fsplit, fsplit3, fjoin, fjoin3, feqI, show, assume, suffices, frame, done, use0, use1, use2, use3, pick, await, rewrite}
+use types.Kit.{Goal, Post, prop, atRet, runs, lands, allocs, params′, passes, frees, Step, step, Seq, Soaks, Given, Item, mean, nth, del, pull, unpull, ‵, raw, ⋆, some as any, later, _⊛_, _$_, _∵_, !, qed, by, move, drop, split, split3, join, fsplit, fsplit3, fjoin, fjoin3, feqI, show, assume, suffices, frame, done, use0, use1, use2, use3, pick, await}
 use types.Run.{Walks as Steps, Reads, Finds, Opd, Opds, and-then, no-more, alloc1, alloc0, params1, pass1, pass0, free0, enter, returns, look, init, forget, stop, hop, fld, from, load, unit-lit, of-opd, land, assigns, free1}
 use types.Part.{Part, whole, sub, look-in, store-in}
 use types.SemTy.{Body}

@@ -1,14 +1,14 @@
 -- The words of the registers as inner functions lend them. Assumes nothing.
 use mathlib.Core.Path.{_≡_, refl, sym, _∙_, ap, ap₂, subst⁻¹}
-use mathlib.Core.Bool.{Bool, true, false, cond}
-use mathlib.Core.List.{List, [], _∷_}
+use mathlib.Core.Bool.{cond}
+use mathlib.Core.List.{List}
 use mathlib.Core.Logic.{_⊎_, inl, inr}
 use Prim.Native.Nat.{ℕ, _-_, _*_, _^_, _<_, _≤_}
 use native.Mathlib.Omega.{arith}
 use native.Mathlib.Nat.{mod-eq-of-lt}
 use lib.Bits.{bitAnd, bitXor, and-mask, and-zero-r, xor-zero-r, xor-lt}
 use lib.Dec.{eqb, leb}
-use lib.ListN.{length, getD, set, length-set}
+use lib.ListN.{getD, set, length-set}
 use lib.Seq.{set-set}
 use borrow.Author.Tests.{ne-eqb}
 use Rattle.bits.proofs.Word.{digit, bit-lt, bit-xor, ext}
@@ -18,7 +18,7 @@ use Rattle.network.specs.Decoder.{decodeOf, decodeInverseOf}
 use Rattle.unit.specs.declared.Registers.{Registers}
 use Rattle.unit.specs.Bank.{withWords, withRegister, stagesOf, packedOf}
 use Rattle.unit.specs.Operation.{loads, loadOf, effects, effectOf, Operation, stepBy}
-use Rattle.unit.specs.Lent.{registersOf, Sized, loadedAt}
+use Rattle.unit.specs.Lent.{Sized, loadedAt}
 use Rattle.unit.proofs.Tables.{by-entry, entry-other}
 
 -- kind 5, by the code's steps: of two stores the second is y, or x again

@@ -1,5 +1,5 @@
 -- `runs::operations_refusal` meets its contract. Assumes nothing.
-use mathlib.Core.Path.{_≡_, refl, sym}
+use mathlib.Core.Path.{_≡_, sym}
 use mathlib.Core.List.{[], _∷_}
 use Prim.Native.Nat.{_+_, _-_, _%_, _<_, _≤_}
 use borrow.Author.Needs.{needs}

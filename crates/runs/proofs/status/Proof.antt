@@ -1,5 +1,4 @@
 -- `runs::status` meets its contract. Assumes nothing.
-use borrow.Author.Needs.{needs}
 use Rattle.runs.proofs.StatusBits.{status-by}
 use Rattle.runs.proofs.status.Statement.{statement}
 use Rattle.runs.proofs.status.Tie as tie
