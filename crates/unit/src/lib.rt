@@ -1,10 +1,8 @@
 // The register unit (paper 01, 'The register unit'; demand 2): its registers by value, one operation, reading and writing a general register.
 ghost use mathlib.Core.Path.{_≡_};
-ghost use Prim.Native.Nat.{_+_, _-_, _*_, _/_, _%_, _^_, _≤_, _<_};
+ghost use Prim.Native.Nat.{_+_, _-_, _*_, _/_, _%_, _^_, _<_};
 ghost use mathlib.Core.Bool.{true, false, cond};
 ghost use mathlib.Core.List.{_++_, reverse};
-ghost use lib.Dec.{eqb};
-ghost use mathlib.Core.Bool.{cond};
 ghost use lib.Dec.{leb};
 ghost use lib.ListN.{length, getD, set, take};
 ghost use Rattle.network.specs.Decoder.{decodeOf, decodeInverseOf};
