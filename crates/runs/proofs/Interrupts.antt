@@ -63,10 +63,10 @@ acknowledge-twice k m = ap (withStatus k) twice
 
 -- Worked by hand: all of 0xFF reads 7; bit 2 set, also where it is one; bits 0 and 2 cleared of 0xF7, all of 7; the line by status 5 and 3 on enable 4, and by
 -- bits 3 to 7, which it does not see.
-abbrev bytes : ℕ → ℕ → Registers
-bytes s e = withEnable (withStatus fresh s) e
+abbrev polled : ℕ → ℕ → Registers
+polled s e = withEnable (withStatus fresh s) e
 
-pub hand-status : statusOf (bytes 0xFF 0) ∷ withBit 0x41 2 ∷ withBit 0x45 2 ∷ cleared 0xF7 0x05 ∷ cleared 0x07 0xFF ∷ interruptOf (bytes 5 4) ∷ interruptOf (bytes 3 4) ∷ interruptOf (bytes 0xF8 0xFF) ∷ []
+pub hand-status : statusOf (polled 0xFF 0) ∷ withBit 0x41 2 ∷ withBit 0x45 2 ∷ cleared 0xF7 0x05 ∷ cleared 0x07 0xFF ∷ interruptOf (polled 5 4) ∷ interruptOf (polled 3 4) ∷ interruptOf (polled 0xF8 0xFF) ∷ []
     ≡ 7 ∷ 0x45 ∷ 0x45 ∷ 0xF2 ∷ 0 ∷ 1 ∷ 0 ∷ 0 ∷ []
 unfolding interruptOf someBoth statusOf withBit cleared ofBits bit
 hand-status = refl
