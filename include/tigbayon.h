@@ -32,7 +32,7 @@
 
 /* The version of this header, and of the archive that it belongs to. */
 #define TB_VERSION_MAJOR 0
-#define TB_VERSION_MINOR 10
+#define TB_VERSION_MINOR 11
 #define TB_VERSION_PATCH 0
 
 #ifdef __cplusplus
@@ -59,8 +59,10 @@ enum TbRefusal {
     TB_REFUSAL_SHORT = 10,       /* the other list of words shorter than its bits need */
     TB_REFUSAL_SPARE = 11,       /* a spare bit of the last packed word read is one */
     TB_REFUSAL_SUBWORD = 12,     /* subword size not 1, 2, 4, 8, 16, 32 */
-    TB_REFUSAL_PLANE = 13        /* no rows, no words in a row, or the plane's length not
+    TB_REFUSAL_PLANE = 13,       /* no rows, no words in a row, or the plane's length not
                                     their product */
+    TB_REFUSAL_WAITING = 14      /* another run waits, or none does, or the list is not the
+                                    remainder */
 };
 
 /* The answer of tb_gather, tb_scatter and tb_group. */
@@ -484,25 +486,41 @@ uint8_t tb_despeckle(const uint64_t *plane, size_t length, size_t rows, size_t r
  * refused run sets.
  *
  * The status byte tells how runs ended, until that is acknowledged; the enable byte
- * says for which of its bits the interrupt line is high. Any two bytes are accepted
- * in a bank. Only tb_run and tb_acknowledge change the status byte, only tb_enable
- * the enable byte.
+ * says for which of its bits the interrupt line is high. Only tb_run, tb_continue and
+ * tb_acknowledge change the status byte, only tb_enable the enable byte.
+ *
+ * A run that ends spent leaves the bank waiting, with a copy of the operations left,
+ * the remainder. tb_continue goes on with a fresh budget, tb_drop gives the run up;
+ * until it is done or dropped, tb_operate and tb_run are refused. What tb_write
+ * writes meanwhile the operations still to come see, as if it stood in the list
+ * there. Only tb_run, tb_continue and tb_drop change whether a bank waits, only the
+ * first two its remainder.
+ *
+ * Any bytes are accepted in a bank. It has 4,280 of them.
  */
 
-/* The registers: b and ib hold controls of the butterfly and of the inverse. */
+/*
+ * The registers: b and ib hold controls of the butterfly and of the inverse. While
+ * the bank waits, the first `left` bytes of `list` are the remainder; if `left` is
+ * above 4,096, no list equals it. All other bytes of `list`, and `left` while the
+ * bank does not wait, have no meaning.
+ */
 typedef struct {
     uint64_t general[16]; /* general registers 0 to 15 */
     uint64_t b[3];        /* b[0]: stage 0 in its low half, stage 1 in its high half, .. */
     uint64_t ib[3];       /* likewise */
     uint8_t status;       /* bits of enum TbStatus, read by tb_status */
     uint8_t enable;       /* the same bits, written by tb_enable */
+    uint8_t waiting;      /* 0: no run waits; any other number: one does */
+    uint32_t left;        /* the length of the remainder, in bytes */
+    uint8_t list[4096];   /* the remainder, from its next operation on */
 } TbBank;
 
 /* The bits of the status byte, 0 to 2. Bits 3 to 7 have no meaning and read zero. */
 enum TbStatus {
-    TB_STATUS_DONE = 1,   /* a run ended done */
-    TB_STATUS_SPENT = 2,  /* a run ended spent */
-    TB_STATUS_REFUSED = 4 /* a run was refused */
+    TB_STATUS_DONE = 1,   /* a run, or a continued one, ended done */
+    TB_STATUS_SPENT = 2,  /* one ended spent */
+    TB_STATUS_REFUSED = 4 /* one was refused */
 };
 
 /* The answer of tb_operate. */
@@ -518,11 +536,11 @@ enum TbEnd {
     TB_END_SPENT = 2    /* an operation is left and does not fit */
 };
 
-/* The answer of tb_run. */
+/* The answer of tb_run and tb_continue. */
 typedef struct {
     uint8_t refusal; /* an enum TbRefusal */
     uint8_t end;     /* an enum TbEnd */
-    uint32_t ran;    /* the count of operations run; 0 if the call is refused */
+    uint32_t ran;    /* the count of operations run by this call; 0 if it is refused */
     uint32_t cycles; /* the sum of their cycles; 0 if the call is refused */
 } TbRun;
 
@@ -534,7 +552,8 @@ typedef struct {
 
 /*
  * Operate: one operation.
- * Refusals: TB_REFUSAL_KIND, TB_REFUSAL_REGISTER.
+ * Refusals: TB_REFUSAL_KIND, TB_REFUSAL_REGISTER, TB_REFUSAL_WAITING (the bank
+ * waits).
  */
 TbCycles tb_operate(TbBank *bank, uint8_t kind, uint8_t r1, uint8_t r2, uint8_t r3);
 
@@ -548,9 +567,35 @@ TbCycles tb_operate(TbBank *bank, uint8_t kind, uint8_t r1, uint8_t r2, uint8_t 
  * A run sets one bit of the status byte: TB_STATUS_DONE, TB_STATUS_SPENT, or
  * TB_STATUS_REFUSED. The byte's other bits stay as they were, bits 3 to 7 too. A
  * refused run changes nothing else.
- * Refusals: TB_REFUSAL_LENGTH, TB_REFUSAL_KIND, TB_REFUSAL_REGISTER.
+ *
+ * One that ends spent sets `waiting` to 1 and `left` to the length of the operations
+ * not run, and copies these to the front of `list`, whose other bytes stay as they
+ * were. One that ends done leaves `waiting` 0, `left` and `list` as they were.
+ * Refusals: TB_REFUSAL_LENGTH, TB_REFUSAL_KIND, TB_REFUSAL_REGISTER,
+ * TB_REFUSAL_WAITING (the bank waits).
  */
 TbRun tb_run(TbBank *bank, const uint8_t *operations, size_t length, uint32_t budget);
+
+/*
+ * Continue: the run that waits, with a fresh budget, on the registers as they
+ * stand. `operations` is its remainder, byte for byte: of the list that was lent
+ * before, the last `left` bytes. It must not be the bank's own `list`, nor overlap
+ * the bank: the caller lends its own copy, with which the bank's is only compared.
+ *
+ * It goes on, ends, answers and sets the status byte and what the bank remembers as
+ * tb_run does, so that it may be continued again. A run that is continued until done,
+ * without a write between, leaves the general registers, b and ib that one run with an
+ * ample budget leaves. A refused call leaves the run waiting.
+ * Refusals: TB_REFUSAL_LENGTH, TB_REFUSAL_KIND, TB_REFUSAL_REGISTER,
+ * TB_REFUSAL_WAITING (the bank does not wait, or the list is not the remainder).
+ */
+TbRun tb_continue(TbBank *bank, const uint8_t *operations, size_t length, uint32_t budget);
+
+/*
+ * Drop: the run that waits is given up, if one does. `waiting` becomes 0, and all
+ * else in the bank stays as it was. Nothing is refused.
+ */
+void tb_drop(TbBank *bank);
 
 /*
  * Read: the value of a general register.
@@ -565,8 +610,8 @@ TbRegister tb_read(const TbBank *bank, uint8_t number);
 uint8_t tb_write(TbBank *bank, uint8_t number, uint64_t value);
 
 /*
- * Polling. Each call here is of the bank's two bytes alone and leaves all else in it
- * as it was. Nothing is refused.
+ * Polling. Each call here is of the status and the enable byte alone and leaves all
+ * else in the bank as it was. Nothing is refused.
  */
 
 /*

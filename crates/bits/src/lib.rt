@@ -35,6 +35,8 @@ pub const SUBWORD: u8 = 12; // the subword size is not 1, 2, 4, 8, 16 or 32 (pap
 
 pub const PLANE: u8 = 13; // a plane's rows or words a row are zero, or their product is not the length of its words (paper 02, Req 06)
 
+pub const WAITING: u8 = 14; // another run waits, or none does, or the list is not the remainder (paper 02, Req 10)
+
 // The base-two logarithm of an accepted width, 0 for any other number.
 pub fn log_of(width: u32) -> u32
     ensures { λ r. ⌜ r ≡ logOf width ⌝ }

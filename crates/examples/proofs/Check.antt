@@ -1,10 +1,10 @@
 -- The marked rows hold: one test, computed over the whole list by the definitions, and the law that reads it row by row. Assumes nothing.
-use mathlib.Core.Path.{_≡_, refl, ap₂}
-use mathlib.Core.Bool.{Bool, true, false, _&&_}
+use mathlib.Core.Path.{_≡_, refl}
+use mathlib.Core.Bool.{Bool, true, _&&_}
 use mathlib.Core.List.{List, [], _∷_}
 use Prim.Native.Nat.{ℕ}
-use lib.Dec.{T, eqb, eqb→eq}
 use Rattle.bits.specs.Bit.{bit, ofBits, rank, places, pick, put}
+use Rattle.bits.proofs.Refusals.{both}
 use Rattle.network.specs.Stage.{switchOf, partner, source, stage, travel, falling, rising, butterflyOf, inverseOf}
 use Rattle.network.specs.Decoder.{turn, turned, controlAt, decodedStage, decodeOf, decodeInverseOf}
 use Rattle.network.specs.Calls.{networkRefusal, networkAnswer, decodeRefusal, decodeAnswer}
@@ -22,38 +22,22 @@ use Rattle.permute.specs.Permutation.{absent, namesOnce}
 use Rattle.permute.specs.Calls.{routeRefusal, routeAnswer, oneRefusal, oneAnswer}
 use Rattle.unit.specs.Operation.{cyclesOf, loadOf, effectOf}
 use Rattle.runs.specs.StatusByte.{withBit}
-use Rattle.runs.specs.Run.{operationsOf, stepsOf, sumOf, ranOf, anyKind, anyRegister, runRefusal, performOf, runOf}
+use Rattle.runs.specs.Run.{operationsOf, stepsOf, sumOf, ranOf, anyKind, anyRegister, runRefusal, performOf, same}
+use Rattle.runs.proofs.Remainders.{same-eq}
 use Rattle.examples.specs.Rows.{Row, rowOutcome, rows, Hold}
-
-same : List ℕ → List ℕ → Bool
-same [] [] = true
-same [] (y ∷ ys) = false
-same (x ∷ xs) [] = false
-same (x ∷ xs) (y ∷ ys) = eqb x y && same xs ys
 
 allHold : List Row → Bool
 allHold [] = true
 allHold (r ∷ rs) = same (rowOutcome (r .call)) (r .outcome) && allHold rs
 
-both : (a b : Bool) → T (a && b) → T a × T b
-both true b t = (tt, t)
-both false b t = absurd t
-
-same-eq : (xs ys : List ℕ) → T (same xs ys) → xs ≡ ys
-unfolding same
-same-eq [] [] t = refl
-same-eq [] (y ∷ ys) t = absurd t
-same-eq (x ∷ xs) [] t = absurd t
-same-eq (x ∷ xs) (y ∷ ys) t = let b = both (eqb x y) (same xs ys) t in ap₂ _∷_ (eqb→eq x y (b .0)) (same-eq xs ys (b .1))
-
-holds : (rs : List Row) → T (allHold rs) → Hold rs
+holds : (rs : List Row) → allHold rs ≡ true → Hold rs
 unfolding allHold
 holds [] t = tt
 holds (r ∷ rs) t =
     let b = both (same (rowOutcome (r .call)) (r .outcome)) (allHold rs) t in
     (same-eq (rowOutcome (r .call)) (r .outcome) (b .0), holds rs (b .1))
 
-test : T (allHold rows)
+test : allHold rows ≡ true
 unfolding allHold same rowOutcome answerOf refusalOf gatherOf scatterOf groupOf pick put places ofBits bit rank
     networkAnswer networkRefusal butterflyOf travel stage source partner switchOf falling
     decodeAnswer decodeRefusal decodeOf decodeInverseOf decodedStage controlAt turned turn
@@ -62,8 +46,8 @@ unfolding allHold same rowOutcome answerOf refusalOf gatherOf scatterOf groupOf 
     weight num place at tab flip side loop.sent loop.loopTurn least firstStage lastStage between
     forced butterflyControls inverseControls everyBelow butterflyTest inverseTest
     placed.switchAt placed.partnerAt placed.through placed.butterfly placed.inverse
-    runOf performOf withBit runRefusal operationsOf stepsOf sumOf ranOf anyKind anyRegister cyclesOf loadOf effectOf inverseOf rising
-test = tt
+    performOf withBit runRefusal operationsOf stepsOf sumOf ranOf anyKind anyRegister cyclesOf loadOf effectOf inverseOf rising
+test = refl
 
 -- Every marked row: its call has its outcome.
 pub rows-hold : Hold rows

@@ -1,24 +1,25 @@
 -- Req 09, the status byte and the interrupt line: what holds of them after every call. Assumes nothing.
 use mathlib.Core.Path.{_≡_, refl, sym, _∙_, ap, subst⁻¹}
-use mathlib.Core.Bool.{Bool, true, false, cond}
+use mathlib.Core.Bool.{Bool, true, false, not, cond}
 use mathlib.Core.List.{List, [], _∷_}
 use mathlib.Core.Logic.{_⊎_, inl, inr, ⊎-elim, _↔_}
-use Prim.Native.Nat.{ℕ, _%_, _<_, _≤_}
+use Prim.Native.Nat.{ℕ, _*_, _%_, _<_, _≤_}
 use native.Mathlib.Omega.{arith}
 use native.Mathlib.Decide.{decLt}
-use lib.Dec.{eqb}
+use lib.Dec.{eqb, ltb}
+use lib.ListN.{length, take, drop}
 use borrow.Author.Tests.{eq-eqb, ne-eqb, eqb-true}
 use Rattle.bits.specs.Bit.{bit, ofBits}
 use Rattle.bits.proofs.Word.{bit-mod-two, bit-above, fits-bits, bit-ofBits, ofBits-lt, ofBits-same, ext}
 use Rattle.unit.specs.declared.Registers.{Registers}
 use Rattle.unit.specs.declared.Bank.{Bank}
-use Rattle.unit.specs.Bank.{fresh, freshBank, withStatus, withEnable}
-use Rattle.unit.proofs.Carried.{operate-bytes, write-bytes}
+use Rattle.unit.specs.Bank.{fresh, freshBank, withStatus, withEnable, waits, withRegisters}
+use Rattle.unit.proofs.Carried.{operate-words, write-words}
 use Rattle.runs.specs.StatusByte.{withBit, statusOf, cleared, acknowledgeOf, someBoth, interruptOf, BothOne}
-use Rattle.runs.specs.Run.{performOf, statusBit, runOf}
-use Rattle.runs.specs.BankCalls.{BankCall, callLook, callOperate, callRun, callWrite, callEnable, callAcknowledge, leftBy, leftByAll}
+use Rattle.runs.specs.Run.{operationsOf, stepsOf, ranOf, runRefusal, turnOf, endOf, statusBit, noted, remembering, dropLent, outcomeOf, refusedOf, performOf, continues}
+use Rattle.runs.specs.BankCalls.{BankCall, callLook, callOperate, callRun, callContinue, callDrop, callWrite, callEnable, callAcknowledge, leftBy, leftByAll}
 use Rattle.runs.proofs.StatusBits.{bit-with-bit, bit-cleared, bit-status, status-lt, some-of, some-both}
-use Rattle.runs.proofs.BytesKept.{perform-status, perform-enable}
+use Rattle.runs.proofs.BytesKept.{steps-carry}
 
 -- The line is high exactly if some bit is one both in the status as it reads and in the enable byte; else it is low.
 pub interrupt-exactly : (k : Registers) → (interruptOf k ≡ 1) ↔ BothOne (statusOf k) (k .enable)
@@ -73,12 +74,32 @@ hand-status = refl
 
 -- After a run
 
--- Of every run, refused or not: the status byte has the bit of its end set and the other seven bits as they were stored, the enable byte is as it was.
-pub run-bytes : (k : Registers) (bytes : List ℕ) (budget : ℕ) → let r = runOf k bytes budget in
-    (r .registers .status ≡ withBit (k .status) (statusBit (r .run .«end»))) × (r .registers .enable ≡ k .enable)
-unfolding runOf
-run-bytes k bytes budget =
-    (ap (λ (s : ℕ). withBit s (statusBit (performOf k bytes budget .run .«end»))) (perform-status k bytes budget), perform-enable k bytes budget)
+-- Of every run, new or continued, refused or not: the status byte has the bit of its end set and the other seven bits as they were stored, the enable byte is as
+-- it was.
+pub run-bytes : (other : Bool) (k : Bank) (bytes : List ℕ) (budget : ℕ) → let r = performOf other k bytes budget in
+    (r .1 .registers .status ≡ withBit (k .registers .status) (statusBit (r .0 .«end»))) × (r .1 .registers .enable ≡ k .registers .enable)
+unfolding performOf
+run-bytes other k bytes budget = by-test (eqb (runRefusal other bytes) 0)
+  where
+    n : ℕ
+    n = ranOf budget (operationsOf bytes)
+
+    j : Registers
+    j = stepsOf (k .registers) (take n (operationsOf bytes))
+
+    kept : (b : Bool) (e : ℕ) → let i = noted (cond b (remembering (withRegisters k j) (drop (4 * n) bytes)) (dropLent (withRegisters k j))) e .registers in
+        (i .status ≡ withBit (j .status) (statusBit e)) × (i .enable ≡ j .enable)
+    kept true e = (refl, refl)
+    kept false e = (refl, refl)
+
+    by-test : (b : Bool) → let r = cond b (outcomeOf k bytes (turnOf (k .registers) (operationsOf bytes) budget)) (refusedOf k (runRefusal other bytes)) in
+        (r .1 .registers .status ≡ withBit (k .registers .status) (statusBit (r .0 .«end»))) × (r .1 .registers .enable ≡ k .registers .enable)
+    by-test true =
+        let e = endOf n (operationsOf bytes) in
+        let w = kept (ltb n (length (operationsOf bytes))) e in
+        let c = steps-carry (k .registers) (take n (operationsOf bytes)) in
+        (w .0 ∙ ap (λ (i : Registers). withBit (i .status) (statusBit e)) c, w .1 ∙ ap (λ (i : Registers). i .enable) c)
+    by-test false = (refl, refl)
 
 bit-lt-three : (e : ℕ) → statusBit e < 3
 bit-lt-three e = by-tests (eqb e 1) (eqb e 2)
@@ -128,13 +149,13 @@ module _ (k j : Registers) (n : ℕ) (h : n < 3) (e : j .status ≡ withBit (k .
   noted-line : (interruptOf j ≡ 1) ↔ ((interruptOf k ≡ 1) ⊎ (bit (k .enable) n ≡ 1))
   noted-line = (λ t. was-or-set (interrupt-exactly j .0 t), ⊎-elim (λ t. interrupt-exactly j .1 (stays (interrupt-exactly k .0 t))) (λ t. interrupt-exactly j .1 (raised t)))
 
--- After a run, refused or not, the line is high exactly if it was high before or the bit of its end is enabled.
-pub run-line : (k : Registers) (bytes : List ℕ) (budget : ℕ) → let r = runOf k bytes budget in
-    (interruptOf (r .registers) ≡ 1) ↔ ((interruptOf k ≡ 1) ⊎ (bit (k .enable) (statusBit (r .run .«end»)) ≡ 1))
-run-line k bytes budget =
-    let r = runOf k bytes budget in
-    let b = run-bytes k bytes budget in
-    noted-line k (r .registers) (statusBit (r .run .«end»)) (bit-lt-three (r .run .«end»)) (b .0) (b .1)
+-- After a run, new or continued, refused or not, the line is high exactly if it was high before or the bit of its end is enabled.
+pub run-line : (other : Bool) (k : Bank) (bytes : List ℕ) (budget : ℕ) → let r = performOf other k bytes budget in
+    (interruptOf (r .1 .registers) ≡ 1) ↔ ((interruptOf (k .registers) ≡ 1) ⊎ (bit (k .registers .enable) (statusBit (r .0 .«end»)) ≡ 1))
+run-line other k bytes budget =
+    let r = performOf other k bytes budget in
+    let b = run-bytes other k bytes budget in
+    noted-line (k .registers) (r .1 .registers) (statusBit (r .0 .«end»)) (bit-lt-three (r .0 .«end»)) (b .0) (b .1)
 
 -- A stored status below 8
 
@@ -160,15 +181,20 @@ cleared-below s m h = below-8 (λ i. cond (eqb (bit m i) 1) 0 (bit s i)) (λ i j
     by-test i true e = refl
     by-test i false e = rw e
 
+performed-below : (other : Bool) (k : Bank) (bytes : List ℕ) (budget : ℕ) → k .registers .status < 8 → performOf other k bytes budget .1 .registers .status < 8
+performed-below other k bytes budget h =
+    let e = performOf other k bytes budget .0 .«end» in
+    subst⁻¹ (λ (s : ℕ). s < 8) (run-bytes other k bytes budget .0) (with-bit-below (k .registers .status) (statusBit e) h (bit-lt-three e))
+
 -- Every call leaves a stored status below 8 below 8.
 pub status-below : (k : Bank) (c : BankCall) → k .registers .status < 8 → leftBy k c .registers .status < 8
 unfolding leftBy
 status-below k callLook h = h
-status-below k (callOperate kind r1 r2 r3) h = subst⁻¹ (λ (s : ℕ). s < 8) (operate-bytes (k .registers) kind r1 r2 r3 .0) h
-status-below k (callRun bytes budget) h =
-    let e = runOf (k .registers) bytes budget .run .«end» in
-    subst⁻¹ (λ (s : ℕ). s < 8) (run-bytes (k .registers) bytes budget .0) (with-bit-below (k .registers .status) (statusBit e) h (bit-lt-three e))
-status-below k (callWrite n v) h = subst⁻¹ (λ (s : ℕ). s < 8) (write-bytes (k .registers) n v .0) h
+status-below k (callOperate kind r1 r2 r3) h = subst⁻¹ (λ (j : Registers). j .status < 8) (operate-words (k .registers) kind r1 r2 r3) h
+status-below k (callRun bytes budget) h = performed-below (waits (k .registers)) k bytes budget h
+status-below k (callContinue bytes budget) h = performed-below (not (continues k bytes)) k bytes budget h
+status-below k callDrop h = h
+status-below k (callWrite n v) h = subst⁻¹ (λ (j : Registers). j .status < 8) (write-words (k .registers) n v) h
 status-below k (callEnable e) h = h
 status-below k (callAcknowledge m) h = cleared-below (k .registers .status) m h
 

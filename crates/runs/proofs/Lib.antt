@@ -2,5 +2,9 @@ pub mod OperationLists
 pub mod Runs
 pub mod StatusBits
 pub mod BytesKept
+pub mod Remainders
+pub mod Ends
 pub mod Theorems
 pub mod Interrupts
+pub mod Waiting
+pub mod Continuing

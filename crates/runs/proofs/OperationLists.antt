@@ -2,11 +2,11 @@
 use mathlib.Core.Path.{_≡_, refl, sym, _∙_, ap}
 use mathlib.Core.Bool.{Bool, true, false, not, cond, _&&_, _||_}
 use mathlib.Core.List.{List, [], _∷_}
-use Prim.Native.Nat.{ℕ, suc, _+_, _%_, _<_, _≤_}
+use Prim.Native.Nat.{ℕ, zero, suc, _+_, _*_, _%_, _<_, _≤_}
 use native.Mathlib.Omega.{arith}
 use lib.Dec.{eqb, leb}
 use lib.ListN.{length, drop, drop-of-length-le}
-use lib.Seq.{drop-cons}
+use lib.Seq.{drop-cons, drop-nil}
 use borrow.Author.Tests.{eqb-true, leb-true, not-false}
 use Rattle.bits.specs.Refusal.{lowest}
 use Rattle.bits.proofs.Refusals.{NoneApplies, none-applies, neither}
@@ -59,31 +59,31 @@ module _ {os rest : List Operation} {o : Operation} {registers : Bool} (h : Sofa
       })
 
   -- a kind that is not there is the refusal of all
-  pub sofar-kind : k ≡ false → operationsRefusal os ≡ 7
+  pub sofar-kind : (other : Bool) → k ≡ false → operationsRefusal other os ≡ 7
   unfolding anyKind anyRegister operationsRefusal
-  sofar-kind f =
+  sofar-kind other f =
       let p = sym (h .any-kind) ∙ ap (λ (b : Bool). not b || anyKind rest) (sym e ∙ f) in
-      λ i. lowest ((7, p i) ∷ (8, anyRegister os) ∷ [])
+      λ i. lowest ((7, p i) ∷ (8, anyRegister os) ∷ (14, other) ∷ [])
 
--- with no operation left, the register numbers are
-pub sofar-all : {os : List Operation} {registers : Bool} → Sofar os registers [] → {b : Bool} → not registers ≡ b
-    → operationsRefusal os ≡ lowest ((7, false) ∷ (8, b) ∷ [])
+-- with no operation left, the register numbers are, or another run
+pub sofar-all : {os : List Operation} {registers : Bool} → Sofar os registers [] → {b : Bool} → not registers ≡ b → {other c : Bool} → other ≡ c
+    → operationsRefusal other os ≡ lowest ((7, false) ∷ (8, b) ∷ (14, c) ∷ [])
 unfolding anyKind anyRegister operationsRefusal
-sofar-all {os} {registers} h f =
+sofar-all {os} {registers} h f g =
     let q = sym (h .any-register) ∙ or-false (not registers) ∙ f in
     let p = sym (h .any-kind) in
-    λ i. lowest ((7, p i) ∷ (8, q i) ∷ [])
+    λ i. lowest ((7, p i) ∷ (8, q i) ∷ (14, g i) ∷ [])
 
 -- the refusal of a run, from the outcomes of the tests of its length
-pub run-refusal-by : (bytes : List ℕ) {a b : Bool} {r : ℕ} → eqb (length bytes % 4) 0 ≡ a → leb (length bytes) 4096 ≡ b
-    → operationsRefusal (operationsOf bytes) ≡ r → runRefusal bytes ≡ cond (not a || not b) 4 r
+pub run-refusal-by : (other : Bool) (bytes : List ℕ) {a b : Bool} {r : ℕ} → eqb (length bytes % 4) 0 ≡ a → leb (length bytes) 4096 ≡ b
+    → operationsRefusal other (operationsOf bytes) ≡ r → runRefusal other bytes ≡ cond (not a || not b) 4 r
 unfolding runRefusal operationsRefusal
-run-refusal-by bytes p q e = λ i. cond (not (p i) || not (q i)) 4 (e i)
+run-refusal-by other bytes p q e = λ i. cond (not (p i) || not (q i)) 4 (e i)
 
-module _ (bytes : List ℕ) (e : runRefusal bytes ≡ 0) where
-  none : NoneApplies (runConditions bytes)
+module _ (other : Bool) (bytes : List ℕ) (e : runRefusal other bytes ≡ 0) where
+  none : NoneApplies (runConditions other bytes)
   unfolding runRefusal
-  none = none-applies (runConditions bytes) (omega arith) e
+  none = none-applies (runConditions other bytes) (omega arith) e
 
   -- a run that is carried out is within the limits of length
   pub run-within : (length bytes % 4 ≡ 0) × (length bytes ≤ 4096)
@@ -94,3 +94,35 @@ module _ (bytes : List ℕ) (e : runRefusal bytes ≡ 0) where
   -- and every operation of its list is accepted
   pub run-accepts : (anyKind (operationsOf bytes) ≡ false) × (anyRegister (operationsOf bytes) ≡ false)
   run-accepts = (none .1 .0, none .1 .1 .0)
+
+  -- no other run is in its way
+  pub run-alone : other ≡ false
+  run-alone = none .1 .1 .1 .0
+
+-- Bytes and operations
+
+-- four bytes an operation
+pub length-operations : (bytes : List ℕ) → length bytes % 4 ≡ 0 → 4 * length (operationsOf bytes) ≡ length bytes
+unfolding operationsOf
+length-operations [] h = refl
+length-operations (a ∷ []) h = absurd (omega arith)
+length-operations (a ∷ b ∷ []) h = absurd (omega arith)
+length-operations (a ∷ b ∷ c ∷ []) h = absurd (omega arith)
+length-operations (a ∷ b ∷ c ∷ d ∷ bytes) h = let r = length-operations bytes (omega arith) in omega (arith, r)
+
+-- fewer than four bytes are no operation, and fewer after some
+few : (n : ℕ) (bytes : List ℕ) → length bytes < 4 → operationsOf bytes ≡ [] → operationsOf (drop (4 * suc n) bytes) ≡ drop (suc n) (operationsOf bytes)
+unfolding operationsOf
+few n bytes h e = ap operationsOf (drop-of-length-le bytes {i = 4 * suc n} (omega arith)) ∙ sym (ap (drop (suc n)) e ∙ drop-nil (suc n))
+
+-- the bytes after n operations are those of the operations after n
+pub operations-after : (n : ℕ) (bytes : List ℕ) → operationsOf (drop (4 * n) bytes) ≡ drop n (operationsOf bytes)
+unfolding operationsOf
+operations-after zero bytes = refl
+operations-after (suc n) [] = ap operationsOf (drop-nil (4 * suc n)) ∙ sym (drop-nil (suc n))
+operations-after (suc n) (a ∷ []) = few n (a ∷ []) (omega arith) refl
+operations-after (suc n) (a ∷ b ∷ []) = few n (a ∷ b ∷ []) (omega arith) refl
+operations-after (suc n) (a ∷ b ∷ c ∷ []) = few n (a ∷ b ∷ c ∷ []) (omega arith) refl
+operations-after (suc n) (a ∷ b ∷ c ∷ d ∷ bytes) =
+    let e : 4 * suc n ≡ suc (suc (suc (suc (4 * n)))) = omega arith in
+    ap (λ (m : ℕ). operationsOf (drop m (a ∷ b ∷ c ∷ d ∷ bytes))) e ∙ operations-after n bytes

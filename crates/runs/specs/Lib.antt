@@ -1,3 +1,4 @@
 pub mod StatusByte
 pub mod Run
 pub mod BankCalls
+pub mod Continued

@@ -1,16 +1,18 @@
--- A run of the register unit, paper 01: a list of operations and a budget; paper 02, Req 09: the status bit that it sets. Assumes nothing.
-use Prim.Native.Nat.{ℕ, suc, _+_, _-_, _%_}
-use mathlib.Core.Bool.{Bool, false, not, cond, _||_}
-use mathlib.Core.List.{List, [], _∷_}
+-- A run of the register unit, paper 01: a list of operations and a budget; paper 02, Req 09: the status bit that it sets; Req 10: a run that is spent waits, and
+-- is continued. Assumes nothing.
+use Prim.Native.Nat.{ℕ, suc, _+_, _-_, _*_, _%_}
+use mathlib.Core.Bool.{Bool, true, false, not, cond, _&&_, _||_}
+use mathlib.Core.List.{List, [], _∷_, _++_}
 use lib.Dec.{eqb, leb, ltb}
-use lib.ListN.{length, take}
+use lib.ListN.{length, take, drop}
 use Rattle.bits.specs.Refusal.{lowest}
 use Rattle.unit.specs.declared.Registers.{Registers}
 use Rattle.unit.specs.declared.Bank.{Bank}
-use Rattle.unit.specs.Bank.{withStatus, withRegisters, leaving}
+use Rattle.unit.specs.Bank.{withStatus, withWaiting, waits, withRegisters, leaving}
 use Rattle.unit.specs.Operation.{cyclesOf, isKind, usedOf, areRegisters, Operation, stepBy}
+use Rattle.runs.specs.declared.Turn.{Turn}
+use Rattle.runs.specs.declared.Marks.{Marks}
 use Rattle.runs.specs.declared.Outcome.{Outcome}
-use Rattle.runs.specs.declared.Ran.{Ran}
 use Rattle.runs.specs.StatusByte.{withBit}
 
 -- the operations of a list: four bytes each
@@ -46,57 +48,103 @@ anyRegister [] = false
 anyRegister (o ∷ os) = not (areRegisters (usedOf (o .0) (o .1) (o .2) (o .3))) || anyRegister os
 
 -- 'Calls turned back': 7 and 8 of any operation of the list
-abbrev pub operationsConditions : List Operation → List (ℕ × Bool)
-operationsConditions os = (7, anyKind os) ∷ (8, anyRegister os) ∷ []
+abbrev pub operationsConditions : Bool → List Operation → List (ℕ × Bool)
+operationsConditions other os = (7, anyKind os) ∷ (8, anyRegister os) ∷ (14, other) ∷ []
 
-unfoldable pub operationsRefusal : List Operation → ℕ
-operationsRefusal os = lowest (operationsConditions os)
+unfoldable pub operationsRefusal : Bool → List Operation → ℕ
+operationsRefusal other os = lowest (operationsConditions other os)
 
--- before them 4, "run list not a multiple of 4 bytes, or above 4,096 bytes". The whole list is checked before its first operation.
-abbrev pub runConditions : List ℕ → List (ℕ × Bool)
-runConditions bytes =
-    (4, not (eqb (length bytes % 4) 0) || not (leb (length bytes) 4096)) ∷ operationsConditions (operationsOf bytes)
+-- before them 4, "run list not a multiple of 4 bytes, or above 4,096 bytes"; after them, of paper 02, Req 10, 14: `other` says if it applies. The whole list is
+-- checked before its first operation.
+abbrev pub runConditions : Bool → List ℕ → List (ℕ × Bool)
+runConditions other bytes =
+    (4, not (eqb (length bytes % 4) 0) || not (leb (length bytes) 4096)) ∷ operationsConditions other (operationsOf bytes)
 
-unfoldable pub runRefusal : List ℕ → ℕ
-runRefusal bytes = lowest (runConditions bytes)
+unfoldable pub runRefusal : Bool → List ℕ → ℕ
+runRefusal other bytes = lowest (runConditions other bytes)
+
+-- Going on: while the next operation fits, from the registers k. The operations run, the sum of their cycles, and the registers after them
+abbrev pub reaching : Turn → Registers → Turn × Registers
+reaching t k = (t, k)
+
+abbrev pub turnOf : Registers → List Operation → ℕ → Turn × Registers
+turnOf k os budget =
+    let n = ranOf budget os in
+    reaching (record { ran = n; cycles = sumOf (take n os) }) (stepsOf k (take n os))
 
 -- "Spent means: an operation is left and does not fit": how a run ended, 1 done, 2 spent
 abbrev pub endOf : ℕ → List Operation → ℕ
 endOf ran os = cond (ltb ran (length os)) 2 1
 
--- an answer and the registers beside it
-abbrev pub ranAt : Outcome → Registers → Ran
-ranAt a k = record { run = a; registers = k }
-
-abbrev pub endedOf : ℕ → ℕ → ℕ → Registers → Ran
-endedOf e n cycles k = record { run = record { refusal = 0; «end» = e; ran = n; cycles = cycles }; registers = k }
-
--- A run that is carried out and stops after n operations: done or spent, the operations run, the sum of their cycles, and the registers after them.
-abbrev pub outcomeOf : Registers → List Operation → ℕ → Ran
-outcomeOf k os n = endedOf (endOf n os) n (sumOf (take n os)) (stepsOf k (take n os))
-
-abbrev pub refusedOf : Registers → ℕ → Ran
-refusedOf k r = record { run = record { refusal = r; «end» = 0; ran = 0; cycles = 0 }; registers = k }
-
--- the run of paper 01, which knows of no status
-unfoldable pub performOf : Registers → List ℕ → ℕ → Ran
-performOf k bytes budget =
-    cond (eqb (runRefusal bytes) 0)
-    (outcomeOf k (operationsOf bytes) (ranOf budget (operationsOf bytes)))
-    (refusedOf k (runRefusal bytes))
-
 -- "A run that ends done sets status bit 0, one that ends spent sets bit 1, and a refused run sets bit 2": the bit of each end, 1 done, 2 spent, else refused
 abbrev pub statusBit : ℕ → ℕ
 statusBit e = cond (eqb e 1) 0 (cond (eqb e 2) 1 2)
 
--- "A refused run thus touches status bit 2 and no other register"
-abbrev pub noted : Ran → Ran
-noted r = ranAt (r .run) (withStatus (r .registers) (withBit (r .registers .status) (statusBit (r .run .«end»))))
+-- registers and a bank with the status bit of an end set
+abbrev pub markedBy : Registers → ℕ → Registers
+markedBy k e = withStatus k (withBit (k .status) (statusBit e))
 
--- a run, with its status bit set
-unfoldable pub runOf : Registers → List ℕ → ℕ → Ran
-runOf k bytes budget = noted (performOf k bytes budget)
+abbrev pub noted : Bank → ℕ → Bank
+noted k e = withRegisters k (markedBy (k .registers) e)
 
--- on a lent bank
-abbrev pub runLent : Bank → List ℕ → ℕ → Outcome × Bank
-runLent k bytes budget = leaving (runOf (k .registers) bytes budget .run) (withRegisters k (runOf (k .registers) bytes budget .registers))
+-- Req 10: "The bank remembers that it waits and a copy of the operations left": their bytes, and then what stood in the list
+abbrev pub remembering : Bank → List ℕ → Bank
+remembering k rest = record { registers = withWaiting (k .registers) 1 (length rest); list = rest ++ drop (length rest) (k .list) }
+
+-- "dropping is always allowed and changes only that the bank no longer waits"
+abbrev pub dropOf : Registers → Registers
+dropOf k = withWaiting k 0 (k .left)
+
+abbrev pub dropLent : Bank → Bank
+dropLent k = withRegisters k (dropOf (k .registers))
+
+-- The end of a list of which n operations have been run, on the bank that they left: it waits for the others, or no longer, and its status has the end's bit.
+abbrev pub endedOf : Bank → List ℕ → ℕ → Bank
+endedOf k bytes n =
+    noted (cond (ltb n (length (operationsOf bytes))) (remembering k (drop (4 * n) bytes)) (dropLent k)) (endOf n (operationsOf bytes))
+
+-- what registers hold beside the words, and registers with the marks of others: inner functions take them apart
+abbrev pub marksOf : Registers → Marks
+marksOf k = record { status = k .status; enable = k .enable; waiting = k .waiting; left = k .left }
+
+abbrev pub withMarks : Registers → Marks → Registers
+withMarks k m = record { general = k .general; b = k .b; ib = k .ib; status = m .status; enable = m .enable; waiting = m .waiting; left = m .left }
+
+-- A run that is carried out: it goes on, and ends.
+abbrev pub outcomeOf : Bank → List ℕ → Turn × Registers → Outcome × Bank
+outcomeOf k bytes t =
+    let n = t .0 .ran in
+    leaving (record { refusal = 0; «end» = endOf n (operationsOf bytes); ran = n; cycles = t .0 .cycles }) (endedOf (withRegisters k (t .1)) bytes n)
+
+-- Req 09: "A refused run thus touches status bit 2 and no other register"
+abbrev pub refusedOf : Bank → ℕ → Outcome × Bank
+refusedOf k r = leaving (record { refusal = r; «end» = 0; ran = 0; cycles = 0 }) (noted k 0)
+
+unfoldable pub performOf : Bool → Bank → List ℕ → ℕ → Outcome × Bank
+performOf other k bytes budget =
+    cond (eqb (runRefusal other bytes) 0)
+    (outcomeOf k bytes (turnOf (k .registers) (operationsOf bytes) budget))
+    (refusedOf k (runRefusal other bytes))
+
+-- A new run on the bank: 14, "another run waits"
+abbrev pub runOf : Bank → List ℕ → ℕ → Outcome × Bank
+runOf k bytes budget = performOf (waits (k .registers)) k bytes budget
+
+-- are two lists of bytes the same?
+unfoldable pub same : List ℕ → List ℕ → Bool
+same [] [] = true
+same [] (y ∷ ys) = false
+same (x ∷ xs) [] = false
+same (x ∷ xs) (y ∷ ys) = eqb x y && same xs ys
+
+-- "A continued list must equal the remembered remainder byte for byte": it has as many bytes as are left, and each is that of the bank's list. Where more are left
+-- than that has, no list is the remainder.
+abbrev pub isRemainder : ℕ → List ℕ → List ℕ → Bool
+isRemainder left list bytes = eqb (length bytes) left && same (take left list) bytes
+
+-- A run continued: 14, "none does, or the list is not the remainder"
+abbrev pub continues : Bank → List ℕ → Bool
+continues k bytes = waits (k .registers) && isRemainder (k .registers .left) (k .list) bytes
+
+abbrev pub continueOf : Bank → List ℕ → ℕ → Outcome × Bank
+continueOf k bytes budget = performOf (not (continues k bytes)) k bytes budget

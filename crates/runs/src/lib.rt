@@ -1,11 +1,13 @@
-// Runs of the register unit with a budget of cycles (paper 01, 'The register unit'; demand 2), and the status and interrupt bytes (paper 02, Req 09).
+// Runs of the register unit with a budget of cycles (paper 01, 'The register unit'; demand 2), the status and interrupt bytes (paper 02, Req 09), and runs that wait
+// and are continued (Req 10).
 ghost use mathlib.Core.Path.{_≡_};
-ghost use Prim.Native.Nat.{_%_, _^_, _≤_};
-ghost use lib.ListN.{length};
-ghost use Rattle.unit.specs.Bank.{withEnable};
+ghost use mathlib.Core.List.{_++_};
+ghost use Prim.Native.Nat.{_*_, _%_, _^_, _≤_};
+ghost use lib.ListN.{length, take, drop};
+ghost use Rattle.unit.specs.Bank.{fresh, withEnable, bankOf, leaving};
 ghost use Rattle.unit.specs.Lent.{Sized, registersOf};
 ghost use Rattle.runs.specs.StatusByte.{withBit, statusOf, acknowledgeOf, interruptOf};
-ghost use Rattle.runs.specs.Run.{operationsOf, ranOf, operationsRefusal, runRefusal, ranAt, outcomeOf, performOf, statusBit, runOf};
+ghost use Rattle.runs.specs.Run.{operationsOf, operationsRefusal, runRefusal, reaching, turnOf, endOf, statusBit, markedBy, withMarks, marksOf, endedOf, performOf, runOf, same, isRemainder, continueOf, dropOf};
 
 // How a run ended, if it was carried out.
 const DONE: u8 = 1;
@@ -19,6 +21,12 @@ const STATUS_SPENT: u8 = 2;
 
 const STATUS_REFUSED: u8 = 4;
 
+// How far a list was carried out: the operations run and their cycles.
+pub struct Turn {
+    pub ran: u32,
+    pub cycles: u32,
+}
+
 // What a run answers: how it ended (0 refused, 1 done, 2 spent), the operations run and the cycles used; zeros beside a refusal.
 #[repr(C)]
 pub struct Outcome {
@@ -28,16 +36,30 @@ pub struct Outcome {
     pub cycles: u32,
 }
 
+// The registers beside the words: the status and enable bytes, and the marks of waiting.
+pub struct Marks {
+    pub status: u8,
+    pub enable: u8,
+    pub waiting: u8,
+    pub left: u32,
+}
+
+// A run's answer, and the marks after it.
+struct Performed {
+    run: Outcome,
+    marks: Marks,
+}
+
 // A run's answer, and the registers after it.
 pub struct Ran {
     pub run: Outcome,
     pub registers: unit::Registers,
 }
 
-// internal: whole operations. The lowest refusal of any of them; 0 if there is none.
-fn operations_refusal(ops: &[u8]) -> u8
+// internal: whole operations. The lowest refusal of any of them, or that of another run; 0 if there is none.
+fn operations_refusal(other: bool, ops: &[u8]) -> u8
     requires { ⌜ length (now ops) % 4 ≡ 0 ⌝ }
-    ensures { λ r. ⌜ r ≡ operationsRefusal (operationsOf (now (ops .entry))) ⌝ }
+    ensures { λ r. ⌜ r ≡ operationsRefusal other (operationsOf (now (ops .entry))) ⌝ }
 {
     let mut registers = true;
     let mut at: usize = 0;
@@ -51,12 +73,15 @@ fn operations_refusal(ops: &[u8]) -> u8
     if !registers {
         return bits::REGISTER;
     }
+    if other {
+        return bits::WAITING;
+    }
     bits::CARRIED_OUT
 }
 
 // The lowest refusal of a run's list; 0 if it is carried out.
-fn run_refusal(ops: &[u8]) -> u8
-    ensures { λ r. ⌜ r ≡ runRefusal (now (ops .entry)) ⌝ }
+fn run_refusal(other: bool, ops: &[u8]) -> u8
+    ensures { λ r. ⌜ r ≡ runRefusal other (now (ops .entry)) ⌝ }
 {
     if ops.len() % 4 != 0 {
         return bits::LENGTH;
@@ -64,19 +89,19 @@ fn run_refusal(ops: &[u8]) -> u8
     if 4096 < ops.len() {
         return bits::LENGTH;
     }
-    operations_refusal(ops)
+    operations_refusal(other, ops)
 }
 
 // internal: the words of the registers, and whole operations, at most 1,024. They are carried out while the next one's cycles fit in what is left of the budget.
-fn carry_out(
+pub fn go_on(
     general: &mut [u64; 16],
     b: &mut [u64; 3],
     ib: &mut [u64; 3],
     ops: &[u8],
     budget: u32,
-) -> Outcome
+) -> Turn
     requires { ⌜ Sized (now general) (now b) (now ib) × (length (now ops) % 4 ≡ 0) × (length (now ops) ≤ 4096) ⌝ }
-    ensures { λ r. ⌜ ranAt r (registersOf (now (general .exit)) (now (b .exit)) (now (ib .exit))) ≡ outcomeOf (registersOf (now (general .entry)) (now (b .entry)) (now (ib .entry))) (operationsOf (now (ops .entry))) (ranOf budget (operationsOf (now (ops .entry)))) ⌝ }
+    ensures { λ r. ⌜ reaching r (registersOf (now (general .exit)) (now (b .exit)) (now (ib .exit))) ≡ turnOf (registersOf (now (general .entry)) (now (b .entry)) (now (ib .entry))) (operationsOf (now (ops .entry))) budget ⌝ }
 {
     let mut falling = unit::kept_for(false, [0u64; 3]);
     let mut rising = unit::kept_for(true, [0u64; 3]);
@@ -86,49 +111,31 @@ fn carry_out(
     while at < ops.len() {
         let cycles = unit::cycles_of(ops[at]);
         if left < cycles {
-            return ended(SPENT, ran, budget - left);
+            return reached(ran, budget - left);
         }
         unit::step(general, b, ib, &mut falling, &mut rising, ops, at);
         left -= cycles;
         ran += 1;
         at += 4;
     }
-    ended(DONE, ran, budget - left)
+    reached(ran, budget - left)
 }
 
-// The answer of a run that was carried out.
-fn ended(end: u8, ran: u32, cycles: u32) -> Outcome
-    ensures { λ r. ⌜ r ≡ record { refusal = 0; «end» = «end»; ran = ran; cycles = cycles } ⌝ }
+fn reached(ran: u32, cycles: u32) -> Turn
+    ensures { λ r. ⌜ r ≡ record { ran = ran; cycles = cycles } ⌝ }
 {
-    Outcome {
-        refusal: 0,
-        end,
-        ran,
-        cycles,
-    }
+    Turn { ran, cycles }
 }
 
-// internal: the words of the registers. A run of the list on them, or its refusal.
-fn run_on(
-    general: &mut [u64; 16],
-    b: &mut [u64; 3],
-    ib: &mut [u64; 3],
-    ops: &[u8],
-    budget: u32,
-) -> Outcome
-    requires { ⌜ Sized (now general) (now b) (now ib) ⌝ }
-    ensures { λ r. ⌜ ranAt r (registersOf (now (general .exit)) (now (b .exit)) (now (ib .exit))) ≡ performOf (registersOf (now (general .entry)) (now (b .entry)) (now (ib .entry))) (now (ops .entry)) budget ⌝ }
+// internal: whole operations, at most 1,024, and not more run than there are. How their run ended.
+fn end_of(ops: &[u8], ran: u32) -> u8
+    requires { ⌜ (length (now ops) % 4 ≡ 0) × (length (now ops) ≤ 4096) × (4 * ran ≤ length (now ops)) ⌝ }
+    ensures { λ r. ⌜ r ≡ endOf ran (operationsOf (now (ops .entry))) ⌝ }
 {
-    let refused = run_refusal(ops);
-    if refused != 0 {
-        return Outcome {
-            refusal: refused,
-            end: 0,
-            ran: 0,
-            cycles: 0,
-        };
+    if 4 * (ran as usize) < ops.len() {
+        return SPENT;
     }
-    carry_out(general, b, ib, ops, budget)
+    DONE
 }
 
 // The bit of the status byte that a run's end sets, as a byte.
@@ -152,26 +159,216 @@ fn status_after(status: u8, end: u8) -> u8
     status | mark
 }
 
-// A run of the list on the registers within a budget of cycles: done or spent, the operations run and their cycles; or the lowest refusal of the whole list, and
-// every word as it was. Its end sets a status bit, refused or not.
-pub fn run(registers: unit::Registers, ops: &[u8], budget: u32) -> Ran
-    ensures { λ r. ⌜ r ≡ runOf registers (now (ops .entry)) budget ⌝ }
+// internal: a bank's list, and not more bytes than it has. They stand at its start then.
+fn remember(list: &mut [u8; 4096], rest: &[u8])
+    requires { ⌜ (length (now list) ≡ 4096) × (length (now rest) ≤ 4096) ⌝ }
+    ensures { λ r. ⌜ now (list .exit) ≡ now (rest .entry) ++ drop (length (now (rest .entry))) (now (list .entry)) ⌝ }
 {
-    let mut general = registers.general;
-    let mut b = registers.b;
-    let mut ib = registers.ib;
-    let run = run_on(&mut general, &mut b, &mut ib, ops, budget);
-    let status = status_after(registers.status, run.end);
+    let mut at: usize = 0;
+    while at < rest.len() {
+        list[at] = rest[at];
+        at += 1;
+    }
+}
+
+// The byte at which the operations begin that come after `ran`.
+fn start_after(ran: u32) -> usize
+    ensures { λ r. ⌜ r ≡ 4 * ran ⌝ }
+{
+    4 * (ran as usize)
+}
+
+// internal: a bank's marks and list, and whole operations, at most 1,024, of which `ran` have been run on it. The end of their run: the bank waits for the others, or
+// no longer, and its status has the end's bit.
+pub fn finish(marks: Marks, list: &mut [u8; 4096], ops: &[u8], ran: u32) -> Marks
+    requires { ⌜ (length (now list) ≡ 4096) × (length (now ops) % 4 ≡ 0) × (length (now ops) ≤ 4096) × (4 * ran ≤ length (now ops)) ⌝ }
+    ensures { λ r. ⌜ bankOf (withMarks fresh r) (now (list .exit)) ≡ endedOf (bankOf (withMarks fresh marks) (now (list .entry))) (now (ops .entry)) ran ⌝ }
+{
+    let end = end_of(ops, ran);
+    let mut after = marks;
+    after.status = status_after(marks.status, end);
+    if end != SPENT {
+        after.waiting = 0;
+        return after;
+    }
+    let start = start_after(ran);
+    let rest = &ops[start..];
+    remember(list, rest);
+    after.waiting = 1;
+    after.left = rest.len() as u32;
+    after
+}
+
+// What a refused run answers: its number, zeros beside it, and the marks as they were but for the status bit.
+fn turned_back(marks: Marks, number: u8) -> Performed
+    ensures { λ r. ⌜ r ≡ record { run = record { refusal = number; «end» = 0; ran = 0; cycles = 0 }; marks = marksOf (markedBy (withMarks fresh marks) 0) } ⌝ }
+{
+    let mut after = marks;
+    after.status = status_after(marks.status, 0);
+    Performed {
+        run: Outcome {
+            refusal: number,
+            end: 0,
+            ran: 0,
+            cycles: 0,
+        },
+        marks: after,
+    }
+}
+
+// internal: a bank by its words, marks and list. A run of the operations on it, unless it is refused: for the list lent, or since `other` says so.
+fn perform(
+    other: bool,
+    general: &mut [u64; 16],
+    b: &mut [u64; 3],
+    ib: &mut [u64; 3],
+    marks: Marks,
+    list: &mut [u8; 4096],
+    ops: &[u8],
+    budget: u32,
+) -> Performed
+    requires { ⌜ Sized (now general) (now b) (now ib) × (length (now list) ≡ 4096) ⌝ }
+    ensures { λ r. ⌜ leaving (r .run) (bankOf (withMarks (registersOf (now (general .exit)) (now (b .exit)) (now (ib .exit))) (r .marks)) (now (list .exit)))
+        ≡ performOf other (bankOf (withMarks (registersOf (now (general .entry)) (now (b .entry)) (now (ib .entry))) marks) (now (list .entry))) (now (ops .entry)) budget ⌝ }
+{
+    let refused = run_refusal(other, ops);
+    if refused != 0 {
+        return turned_back(marks, refused);
+    }
+    let turn = go_on(general, b, ib, ops, budget);
+    let end = end_of(ops, turn.ran);
+    let after = finish(marks, list, ops, turn.ran);
+    Performed {
+        run: Outcome {
+            refusal: 0,
+            end,
+            ran: turn.ran,
+            cycles: turn.cycles,
+        },
+        marks: after,
+    }
+}
+
+// The marks of registers.
+fn marks_of(registers: unit::Registers) -> Marks
+    ensures { λ r. ⌜ r ≡ marksOf registers ⌝ }
+{
+    Marks {
+        status: registers.status,
+        enable: registers.enable,
+        waiting: registers.waiting,
+        left: registers.left,
+    }
+}
+
+// A run's answer with the registers of these words.
+fn ran_at(after: Performed, general: [u64; 16], b: [u64; 3], ib: [u64; 3]) -> Ran
+    ensures { λ r. ⌜ r ≡ record { run = after .run; registers = withMarks (registersOf general b ib) (after .marks) } ⌝ }
+{
+    let run = after.run;
+    let marks = after.marks;
     Ran {
         run,
         registers: unit::Registers {
             general,
             b,
             ib,
-            status,
-            enable: registers.enable,
+            status: marks.status,
+            enable: marks.enable,
+            waiting: marks.waiting,
+            left: marks.left,
         },
     }
+}
+
+// internal: a bank's list. A run of the operations on the bank within a budget of cycles: done or spent, the operations run and their cycles; or the lowest refusal
+// of the whole list, and every word as it was. Its end sets a status bit, refused or not. Spent, the bank waits for the operations left.
+pub fn run(registers: unit::Registers, list: &mut [u8; 4096], ops: &[u8], budget: u32) -> Ran
+    requires { ⌜ length (now list) ≡ 4096 ⌝ }
+    ensures { λ r. ⌜ leaving (r .run) (bankOf (r .registers) (now (list .exit))) ≡ runOf (bankOf registers (now (list .entry))) (now (ops .entry)) budget ⌝ }
+{
+    let mut general = registers.general;
+    let mut b = registers.b;
+    let mut ib = registers.ib;
+    let marks = marks_of(registers);
+    let other = marks.waiting != 0;
+    let after = perform(
+        other,
+        &mut general,
+        &mut b,
+        &mut ib,
+        marks,
+        list,
+        ops,
+        budget,
+    );
+    ran_at(after, general, b, ib)
+}
+
+// internal: a bank's list, and not more bytes than it has. Whether its first bytes are these. No branch depends on a byte.
+fn starts_with(list: &[u8; 4096], ops: &[u8]) -> bool
+    requires { ⌜ (length (now list) ≡ 4096) × (length (now ops) ≤ 4096) ⌝ }
+    ensures { λ r. ⌜ r ≡ same (take (length (now (ops .entry))) (now (list .entry))) (now (ops .entry)) ⌝ }
+{
+    let mut same = true;
+    let mut at: usize = 0;
+    while at < ops.len() {
+        same = same & (list[at] == ops[at]);
+        at += 1;
+    }
+    same
+}
+
+// internal: a bank's list. Whether the operations are the remainder that the bank remembers.
+fn is_remainder(left: u32, list: &[u8; 4096], ops: &[u8]) -> bool
+    requires { ⌜ length (now list) ≡ 4096 ⌝ }
+    ensures { λ r. ⌜ r ≡ isRemainder left (now (list .entry)) (now (ops .entry)) ⌝ }
+{
+    if ops.len() != left as usize {
+        return false;
+    }
+    if 4096 < left {
+        return false;
+    }
+    starts_with(list, ops)
+}
+
+// internal: a bank's list. A run continued: as a run, where the bank waits and the operations are its remainder.
+pub fn continue_run(
+    registers: unit::Registers,
+    list: &mut [u8; 4096],
+    ops: &[u8],
+    budget: u32,
+) -> Ran
+    requires { ⌜ length (now list) ≡ 4096 ⌝ }
+    ensures { λ r. ⌜ leaving (r .run) (bankOf (r .registers) (now (list .exit))) ≡ continueOf (bankOf registers (now (list .entry))) (now (ops .entry)) budget ⌝ }
+{
+    let mut general = registers.general;
+    let mut b = registers.b;
+    let mut ib = registers.ib;
+    let marks = marks_of(registers);
+    let waits = marks.waiting != 0;
+    let remainder = is_remainder(marks.left, list, ops);
+    let after = perform(
+        !(waits & remainder),
+        &mut general,
+        &mut b,
+        &mut ib,
+        marks,
+        list,
+        ops,
+        budget,
+    );
+    ran_at(after, general, b, ib)
+}
+
+// The registers of a bank that no longer waits.
+pub fn drop(registers: unit::Registers) -> unit::Registers
+    ensures { λ r. ⌜ r ≡ dropOf registers ⌝ }
+{
+    let mut dropped = registers;
+    dropped.waiting = 0;
+    dropped
 }
 
 // The status byte as it reads: bits 0 to 2.

@@ -63,10 +63,10 @@ abbrev pub bankVal : Bank → Val
 bankVal k = LL.val T.the-type T′.the-laws k
 
 -- a bank with other registers is one
-bank-with : (h : Bank) (rs : Registers) → Is T.the-row h (bankVal h ∷ []) → Is N.the-row rs (registersVal rs ∷ []) → Is T.the-row (withRegisters h rs) (bankVal (withRegisters h rs) ∷ [])
+pub bank-with : (h : Bank) (rs : Registers) → Is T.the-row h (bankVal h ∷ []) → Is N.the-row rs (registersVal rs ∷ []) → Is T.the-row (withRegisters h rs) (bankVal (withRegisters h rs) ∷ [])
 bank-with h rs was is = LL.owes T.the-type T′.the-laws (withRegisters h rs) (is, LL.owed T.the-type T′.the-laws h (bankVal h ∷ []) was .1)
 
-registers-of : (h : Bank) → Is T.the-row h (bankVal h ∷ []) → Is N.the-row (h .registers) (registersVal (h .registers) ∷ [])
+pub registers-of : (h : Bank) → Is T.the-row h (bankVal h ∷ []) → Is N.the-row (h .registers) (registersVal (h .registers) ∷ [])
 registers-of h was = LL.owed T.the-type T′.the-laws h (bankVal h ∷ []) was .0
 
 -- a contract as its callers have it
@@ -111,7 +111,7 @@ alone 𝓤 X = via 𝓤 (sep 𝓤 (emp 𝓤) X) (emp∗ 𝓤 X) (comm∗ 𝓤 (e
 
 -- the borrow opened, with the bank's cell at its type and its machine value written out, and closed at another bank
 module _ {M : Type 1} {𝓤 : URA M} {H : Heap 𝓤} {A : Atoms 𝓤} {K : Type 0} {W : Given 𝓤 H A} {Γ : List (Item 𝓤)} {G : Goal 𝓤 H} where
-  bank-opens : K → Soaks G → {κ : Lft} {q : Share} (h : Bank) {γ : GName} (b o : ℕ)
+  pub bank-opens : K → Soaks G → {κ : Lft} {q : Share} (h : Bank) {γ : GName} (b o : ℕ)
       → (Is T.the-row h (bankVal h ∷ [])
       → Seq K W (‵ (fat fullShare T′.mir b o (bankVal h)) ∷ ‵ (fobor κ q (Body (mem T.the-row) b o γ)) ∷ ‵ (fobs γ (T.the-row .coded .code h)) ∷ ‵ (fauth γ (T.the-row .coded .code h)) ∷ Γ) G)
       → Seq K W (‵ (fobs γ (T.the-row .coded .code h)) ∷ ‵ (fbor κ (Body (mem T.the-row) b o γ)) ∷ ‵ (flft κ q) ∷ Γ) G
@@ -120,7 +120,7 @@ module _ {M : Type 1} {𝓤 : URA M} {H : Heap 𝓤} {A : Atoms 𝓤} {K : Type 
       move t (1 ∷ []) $ facts t T.the-row (Is T.the-row) (shows 𝓤 H A T.the-row) h (bankVal h ∷ []) (λ was.
       use1 W (‵ (fat fullShare T′.mir b o (bankVal h))) (W .laws .raw-at fullShare T′.mir b o (bankVal h)) $ k was))
 
-  bank-closes : K → Soaks G → {κ : Lft} {q : Share} {u v : Gv} (h : Bank) → Is T.the-row h (bankVal h ∷ []) → {γ : GName} (b o : ℕ)
+  pub bank-closes : K → Soaks G → {κ : Lft} {q : Share} {u v : Gv} (h : Bank) → Is T.the-row h (bankVal h ∷ []) → {γ : GName} (b o : ℕ)
       → Step K W (‵ (fobs γ (T.the-row .coded .code h)) ∷ ‵ (fbor κ (Body (mem T.the-row) b o γ)) ∷ ‵ (flft κ q) ∷ Γ) G
       (‵ (fat fullShare T′.mir b o (bankVal h)) ∷ ‵ (fobor κ q (Body (mem T.the-row) b o γ)) ∷ ‵ (fobs γ u) ∷ ‵ (fauth γ v) ∷ Γ) G
   bank-closes t z h is b o =
@@ -247,7 +247,7 @@ abbrev pub storedBack : Operand → Operand → Code → Code
 storedBack source answered rest = seq (assign (place 1 (deref T′.mir ∷ field 0 ∷ [])) (rvOpd source)) (seq (assign (place 0 []) (rvOpd answered)) rest)
 
 module _ {M : Type 1} {𝓤 : URA M} {H : Heap 𝓤} {A : Atoms 𝓤} {K : Type 0} {W : Given 𝓤 H A} {Δ : List (Item 𝓤)} {E : Env 𝓤 H} {C : Calls 𝓤 H} {Λ : Loops 𝓤 H} {Q : Post 𝓤 H} where
-  lent : K → FmC 𝓤 H (W .laws) C → {κ : Lft} {q : Share} {h : Bank} {γ : GName} (b o : ℕ) {f : Name} (g : Callee 𝓤 H A C f (h .registers))
+  lent : K → FmC 𝓤 H (W .laws) C → {κ : Lft} {q : Share} (h : Bank) {γ : GName} (b o : ℕ) {f : Name} (g : Callee 𝓤 H A C f (h .registers))
       → {i j : ℕ} {τ π σ : Ty} {l₀ l₁ lᵢ lⱼ : ℕ} → spotOf 𝓤 H E 0 ≡ (τ, l₀, 0) → spotOf 𝓤 H E 1 ≡ (π, l₁, 0) → spotOf 𝓤 H E i ≡ (N′.mir, lᵢ, 0) → spotOf 𝓤 H E j ≡ (σ, lⱼ, 0)
       → (taken : Taken 𝓤 H A W (Row g) σ τ j) → {xs : List Operand} {rest : Code}
       → Opds K W (raw (Asked g) ∷ ‵ (g .others) ∷ ‵ (fat fullShare T′.mir b o (bankVal h)) ∷ ‵ (fobor κ q (Body (mem T.the-row) b o γ)) ∷ ‵ (fobs γ (T.the-row .coded .code h)) ∷ ‵ (fauth γ (T.the-row .coded .code h))
@@ -258,7 +258,7 @@ module _ {M : Type 1} {𝓤 : URA M} {H : Heap 𝓤} {A : Atoms 𝓤} {K : Type 
       → Seq K W (‵ (fobs γ (T.the-row .coded .code h)) ∷ ‵ (fbor κ (Body (mem T.the-row) b o γ)) ∷ ‵ (flft κ q) ∷ raw (Tokens g) ∷ ‵ (g .others)
       ∷ ‵ (froom N′.mir lᵢ 0) ∷ ‵ (froom σ lⱼ 0) ∷ ‵ (fat fullShare π l₁ 0 (vptr b o)) ∷ ‵ (froom τ l₀ 0) ∷ Δ)
       (runs C Λ E (copiedOut i (seq (call f xs (place j [])) (storedBack (taken .source) (taken .answered) rest))) Q)
-  lent t fm {h = h} b o g {lⱼ = lⱼ} e₀ e₁ eᵢ eⱼ taken os k =
+  lent t fm h b o g {lⱼ = lⱼ} e₀ e₁ eᵢ eⱼ taken os k =
       bank-opens t tt h b o (λ was.
       -- [the bank's cell; the open borrow; obs; auth; the tokens; what the others own; _i at 6; _j; _1; _0; ..]
       assigns t (of-opd t (load t (found t e₁ (hop t (look t 8 refl) (fld t refl (stop t)))) (look-in t 0 (sub t 0 refl (whole t))))) (found t eᵢ (stop t)) (init t 6 refl (LL.lawful N.the-type N′.the-laws 𝓤 H A W .typed (h .registers) _ (registers-of h was) .0)) $
@@ -273,7 +273,7 @@ module _ {M : Type 1} {𝓤 : URA M} {H : Heap 𝓤} {A : Atoms 𝓤} {K : Type 
       move t (0 ∷ 3 ∷ 4 ∷ 5 ∷ []) $ bank-closes t tt (withRegisters h (taken .registers r)) (bank-with h (taken .registers r) was (taken .registers-are r v is)) b o $ k v r e is))
 
   -- a bank lent by `&` is looked into, copied out and shut, and the callee's answer is the result
-  shown : K → FmC 𝓤 H (W .laws) C → {κ : Lft} {q : Share} {h : Bank} (b o : ℕ) {f : Name} (g : Callee 𝓤 H A C f (h .registers))
+  shown : K → FmC 𝓤 H (W .laws) C → {κ : Lft} {q : Share} (h : Bank) (b o : ℕ) {f : Name} (g : Callee 𝓤 H A C f (h .registers))
       → {i : ℕ} {ρ π : Ty} {l₀ l₁ lᵢ : ℕ} → spotOf 𝓤 H E 0 ≡ (ρ, l₀, 0) → spotOf 𝓤 H E 1 ≡ (π, l₁, 0) → spotOf 𝓤 H E i ≡ (N′.mir, lᵢ, 0)
       → ((r : Row g .Denot) (v : Val) → Is (Row g) r (v ∷ []) → T (hasTy ρ v) × WT v) → {xs : List Operand} {rest : Code}
       → Opds K W (raw (Asked g) ∷ ‵ (g .others) ∷ ‵ (flft κ q) ∷ ‵ (fshr-bor κ (λ s. partAt T.the-row s h b o))
@@ -284,7 +284,7 @@ module _ {M : Type 1} {𝓤 : URA M} {H : Heap 𝓤} {A : Atoms 𝓤} {K : Type 
       → Seq K W (‵ (fshr-bor κ (λ s. partAt T.the-row s h b o)) ∷ ‵ (flft κ q) ∷ raw (Tokens g) ∷ ‵ (g .others)
       ∷ ‵ (froom N′.mir lᵢ 0) ∷ ‵ (fat fullShare π l₁ 0 (vptr b o)) ∷ ‵ (froom ρ l₀ 0) ∷ Δ)
       (runs C Λ E (copiedOut i (seq (call f xs (place 0 [])) rest)) Q)
-  shown t fm {h = h} b o g e₀ e₁ eᵢ typed os k =
+  shown t fm h b o g e₀ e₁ eᵢ typed os k =
       looks t tt T.the-row (Is T.the-row) (shows 𝓤 H A T.the-row) (LL.vals T.the-type T′.the-laws) (LL.tells T.the-type T′.the-laws) (LL.copy T.the-type T′.the-copy 𝓤 H A W) h b o (λ s vs.
       spelt t T.the-row (Is T.the-row) (shows 𝓤 H A T.the-row) (LL.vals T.the-type T′.the-laws) (LL.tells T.the-type T′.the-laws) s h vs b o $
       -- [a share of the bank's cell; what a Bank owns; what shuts it; the fractured borrow; the tokens; what the others own; _i at 6; _1; _0; ..]
@@ -392,13 +392,13 @@ module _ {M : Type 1} {𝓤 : URA M} {H : Heap 𝓤} {A : Atoms 𝓤} {K : Type 
 
 -- ---- the whole function
 module _ {M : Type 1} {𝓤 : URA M} {H : Heap 𝓤} {A : Atoms 𝓤} {K : Type 0} {W : Given 𝓤 H A} {Γ : List (Item 𝓤)} {C : Calls 𝓤 H} {Λ : Loops 𝓤 H} {Kf : Val → SProp 𝓤} where
-  enter-as : K → (e : Fn) (vs : List Val) {ls : List Local} {body : Code} → e .locals ≡ ls → e .body ≡ body
+  pub enter-as : K → (e : Fn) (vs : List Val) {ls : List Local} {body : Code} → e .locals ≡ ls → e .body ≡ body
       → Seq K W Γ (allocs ls (λ E. params′ E vs (runs C Λ E body (atRet E Kf)))) → Seq K W Γ (prop (WpFn 𝓤 H C Λ e vs Kf))
   enter-as t e vs p r k =
       enter t C Λ e vs Kf $ subst (λ (x : List Local × Code). Seq K W Γ (allocs (x .0) (λ E. params′ E vs (runs C Λ E (x .1) (atRet E Kf))))) (λ i. (sym p i, sym r i)) k
 
 -- what the reference owns at the bank k, and what the other arguments own
-abbrev lentAt : Lft → GName → ℕ → ℕ → Fml → Bank → Fml
+abbrev pub lentAt : Lft → GName → ℕ → ℕ → Fml → Bank → Fml
 lentAt κ γ b o others k = fsep (fsep (feq (List Val) (vptr b o ∷ []) (vptr b o ∷ [])) (fsep (fobs γ (T.the-row .coded .code k)) (fbor κ (Body (mem T.the-row) b o γ)))) others
 
 abbrev shownAt : Lft → GName → ℕ → ℕ → Fml → Bank → Fml
@@ -420,7 +420,7 @@ module _ {M : Type 1} {𝓤 : URA M} {H : Heap 𝓤} {A : Atoms 𝓤} (W : Given
       move ! (0 ∷ 1 ∷ 3 ∷ 4 ∷ []) $ enter-as ! e (vptr b o ∷ valsOf ps) ls body (
       alloc1 ! (λ l₀. alloc1 ! (λ l₁. alloc-all ! ps (λ bs. alloc1 ! (λ lⱼ. alloc1 ! (λ lᵢ. alloc0 ! $ params1 ! $ pass1 ! (init ! 5 refl ptr) $ move ! (4 ∷ []) $ pass-all ! ps bs typed _ (
       -- [the others' locals; _i; …; _j at 3; _1 at 5; _0 at 7; obs at 9; the borrow; the token; the tokens; what the others own]
-      move ! (9 ∷ 10 ∷ 11 ∷ 12 ∷ 13 ∷ 1 ∷ 3 ∷ 5 ∷ 7 ∷ 0 ∷ []) $ lent ! fm b o g refl refl (at l₀ l₁ lᵢ lⱼ bs .1) (at l₀ l₁ lᵢ lⱼ bs .2) taken
+      move ! (9 ∷ 10 ∷ 11 ∷ 12 ∷ 13 ∷ 1 ∷ 3 ∷ 5 ∷ 7 ∷ 0 ∷ []) $ lent ! fm h b o g refl refl (at l₀ l₁ lᵢ lⱼ bs .1) (at l₀ l₁ lᵢ lⱼ bs .2) taken
       (operands passed (and-then ! (load ! (found ! (at l₀ l₁ lᵢ lⱼ bs .1) (stop !)) (look ! 6 refl)) (read-all ! 10 (cells 𝓤 H ps bs) refl 2 ps bs (at l₀ l₁ lᵢ lⱼ bs .0) (λ τ b′ v w. w)))) (λ v r d is.
       -- [obs; the borrow; the token; the tokens; what the others own; _i; _j; _1; _0; the others' locals at 9; …]
       returns ! (look ! 8 refl) $ move ! (8 ∷ 13 ∷ 7 ∷ 12 ∷ 9 ∷ 6 ∷ 11 ∷ 5 ∷ 10 ∷ []) $ gone ! $ gone ! $ free-all ! ps bs _ (gone ! $ gone ! $ free0 ! $ suffices ! _ (ends r) $ says ! (keeps r d) $
@@ -439,7 +439,7 @@ module _ {M : Type 1} {𝓤 : URA M} {H : Heap 𝓤} {A : Atoms 𝓤} (W : Given
       move ! (1 ∷ 3 ∷ 4 ∷ 2 ∷ []) $ enter-as ! e (vptr b o ∷ valsOf ps) ls body (
       alloc1 ! (λ l₀. alloc1 ! (λ l₁. alloc-all ! ps (λ bs. alloc1 ! (λ lᵢ. alloc0 ! $ params1 ! $ pass1 ! (init ! 3 refl ptr) $ move ! (2 ∷ []) $ pass-all ! ps bs typed _ (
       -- [the others' locals; _i; …; _1 at 3; _0 at 5; the fractured borrow at 7; the token; the tokens; what the others own; res]
-      move ! (7 ∷ 8 ∷ 9 ∷ 10 ∷ 1 ∷ 3 ∷ 5 ∷ 0 ∷ []) $ shown ! fm b o g refl refl (at l₀ l₁ lᵢ bs .1) answer
+      move ! (7 ∷ 8 ∷ 9 ∷ 10 ∷ 1 ∷ 3 ∷ 5 ∷ 0 ∷ []) $ shown ! fm h b o g refl refl (at l₀ l₁ lᵢ bs .1) answer
       (operands passed (and-then ! (load ! (found ! (at l₀ l₁ lᵢ bs .1) (stop !)) (look ! 4 refl)) (read-all ! 7 (cells 𝓤 H ps bs) refl 2 ps bs (at l₀ l₁ lᵢ bs .0) (λ τ b′ v w. w)))) (λ v r d.
       -- [the fractured borrow; the token; the tokens; what the others own; what the answer owns; _i; _1; _0; the others' locals at 8; …; res]
       returns ! (look ! 7 refl) $ move ! (7 ∷ 11 ∷ 6 ∷ 10 ∷ 8 ∷ 5 ∷ 9 ∷ []) $ gone ! $ gone ! $ free-all ! ps bs _ (gone ! $ free0 ! $ suffices ! _ (ends r v) $ says ! (keeps r d) $

@@ -1,6 +1,7 @@
--- The functions over a lent bank that answer one byte, and those that are handed one and answer nothing, each once for all (`Lent`). What they call has the same type but for the registers by value.
+-- The functions over a lent bank that answer one byte, and those that are handed one, or nothing, and answer nothing, each once for all (`Lent`). What they call has the same type but for the registers by value.
 --     shows-byte       `fn(&Bank) -> u8`, whose promise is f of the registers
 --     sets-byte        `fn(&mut Bank, byte: u8)`, whose promise is the bank with the registers that f makes of its own and of the byte
+--     sets-registers   `fn(&mut Bank)`, whose promise is the bank with the registers that f makes of its own
 -- Each is told, by `refl`, that this is what the function promises: where it is not, the error names what differs.
 -- Assumes nothing.
 use mathlib.Core.Path.{_≡_, refl, ap, subst}
@@ -54,6 +55,15 @@ setEnded = record {
   signature = record { lifetimes = 0; outlives = []; params = plain (λ κs. N.the-row) ∷ plain (λ κs. u8) ∷ []; result = plain (λ κs. N.the-row) };
   kept = (yes, (yes, tt));
 }
+
+abbrev remakingEnded : Ended
+remakingEnded = record {
+  signature = record { lifetimes = 1; outlives = []; params = RefMutOf (0 ∷ []) tt (plain (λ κs. T.the-row)) (λ κs. tt) ∷ []; result = plain (λ κs. unit) };
+  kept = (yes, tt);
+}
+
+abbrev remadeEnded : Ended
+remadeEnded = record { signature = record { lifetimes = 0; outlives = []; params = plain (λ κs. N.the-row) ∷ []; result = plain (λ κs. N.the-row) }; kept = (yes, tt) }
 
 module _ {M : Type 1} (𝓤 : URA M) (H : Heap 𝓤) (𝓜 : Model 𝓤 H) (𝓖 : GhostRules 𝓤 H) (𝓡 : Running 𝓤 H 𝓜) (env : routine.Env) (k : Name) (e : Fn)
     (closed : Closed 𝓤 H (tables 𝓤 H 𝓜 𝓡 env .C) (tables 𝓤 H 𝓜 𝓡 env .Λ) k e) (g : Name) (r : Routine) (calls : env g ≡ r) where
@@ -124,3 +134,36 @@ module _ {M : Type 1} (𝓤 : URA M) (H : Heap 𝓤) (𝓜 : Model 𝓤 H) (𝓖
       where
         stayed : Stays (settingEnded .signature .params) (settingEnded .kept)
         stayed = (stay-ref (0 ∷ []) tt (plain (λ _. T.the-row)), (stay-none (λ _. u8) yes, tt))
+
+  module _ (f : Registers → Registers) where
+    abbrev remakingClauses : Clauses 𝓤 remakingEnded
+    remakingClauses = λ κs a. record { ghost = Unit {0}; requires = λ _. emp 𝓤; ensures = λ _ r z. fact 𝓤 (now (z .0) ≡ withRegisters (now (a .0)) (f (now (a .0) .registers))) }
+
+    abbrev remadeClauses : Clauses 𝓤 remadeEnded
+    remadeClauses = λ κs a. record { ghost = Unit {0}; requires = λ _. emp 𝓤; ensures = λ _ r z. fact 𝓤 (r ≡ f (a .0)) }
+
+    pub sets-registers : Triple 𝓤 (𝓡 .run r) (contractOf 𝓤 H (𝓖 .A) remadeEnded remadeClauses)
+        → e .locals ≡ local tyUnit valueLocal ∷ local (tyRef (named 0) mut (pointee (T.the-row .written))) valueLocal ∷ local N′.mir valueLocal ∷ local N′.mir valueLocal ∷ []
+        → e .body ≡ copiedOut 3 (seq (call g (copy (place 3 []) ∷ []) (place 2 [])) (storedBack (copy (place 2 [])) opdUnit return))
+        → {c : Clauses 𝓤 remakingEnded} → remakingClauses ≡ c
+        → Triple 𝓤 (tables 𝓤 H 𝓜 𝓡 env .C k) (contractOf 𝓤 H (𝓖 .A) remakingEnded c)
+    sets-registers met ls body promised =
+        let A = 𝓖 .A in
+        let W = givenOf 𝓤 H 𝓜 𝓖 in
+        subst (λ (c : Clauses 𝓤 remakingEnded). Triple 𝓤 (tables 𝓤 H 𝓜 𝓡 env .C k) (contractOf 𝓤 H A remakingEnded c)) promised
+        (meets 𝓤 H 𝓜 𝓖 𝓡 env k e closed remakingEnded stayed remakingClauses
+        (goes-ref 𝓤 H A W 1 0 tt (plain (λ _. T.the-row)), tt)
+        g r calls (contractOf 𝓤 H A remadeEnded remadeClauses) met
+        (λ κs. (ptr-vals, tt)) (λ κs. (mut-tells (named 0) (κs .0) T.the-row, tt))
+        (λ C Λ fm known κs qs bounds a x are.
+        let h = a .0 .now in
+        -- _3 has the registers copied out, _2 the answer
+        lent-walk W Λ fm (κs .0) (qs .0) (a .0 .name) h (a .0 .ptr .0) (a .0 .ptr .1)
+        (calling W remadeEnded remadeClauses known ((tt, tt, tt, (h .registers, tt), (registersVal (h .registers) ∷ [], tt)), tt) (λ r. r ≡ f (h .registers)) (λ r ws. id⊢ 𝓤 _) [] tt tt tt (alone 𝓤 _))
+        [] tt refl e 3 2 (itself 𝓤 H A W 2) ls body (tt, tt)
+        (λ l₀ l₁ lᵢ lⱼ bs. (tt, refl, refl))
+        (λ r. unit .own tt (vunit ∷ [])) (λ r v is. nothing-makes 𝓤 H A W tt (vunit ∷ []) refl) _ _
+        (λ r. ends-at 𝓤 H A remakingEnded stayed remakingClauses W ((κs, qs, bounds, a, (vptr (a .0 .ptr .0) (a .0 .ptr .1) ∷ [], tt)), x) vunit tt (withRegisters h r, tt) (tt, tt)) (λ r e. ap (withRegisters h) e)))
+      where
+        stayed : Stays (remakingEnded .signature .params) (remakingEnded .kept)
+        stayed = (stay-ref (0 ∷ []) tt (plain (λ _. T.the-row)), tt)

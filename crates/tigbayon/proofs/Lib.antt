@@ -1,2 +1,3 @@
 pub mod Lent
 pub mod LentBytes
+pub mod LentList

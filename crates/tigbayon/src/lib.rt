@@ -1,7 +1,7 @@
 // The exported C functions, declared in include/tigbayon.h: all calls of paper 01 ('Lines, masks, orders' to 'The register unit'), those of
-// prepared networks, and of paper 02 the bit planes, tiles, subwords, planes of pixels, permutations by groups and the status of the register unit. Each hands
-// its arguments to one call. No logic is here, and each promise is that call's. The host lends its register bank: its registers are copied out, and what the
-// call leaves is stored back.
+// prepared networks, and of paper 02 the bit planes, tiles, subwords, planes of pixels, permutations by groups, and the status and continued runs of the register
+// unit. Each hands its arguments to one call. No logic is here, and each promise is that call's. The host lends its register bank: its registers are copied out,
+// and what the call leaves is stored back; its list is lent on to a run.
 ghost use mathlib.Core.Path.{_≡_};
 ghost use mathlib.Core.Bool.{true, false};
 ghost use mathlib.Core.List.{reverse};
@@ -10,7 +10,7 @@ ghost use Rattle.network.specs.Word.{exchangesOf};
 ghost use Rattle.network.specs.Calls.{networkAnswer, prepareAnswer, decodeAnswer};
 ghost use Rattle.routing.specs.Lists.{butterflyFits, butterflyAlone, inverseFits, inverseAlone};
 ghost use Rattle.runs.specs.StatusByte.{statusOf, enableLent, acknowledgeLent, interruptOf};
-ghost use Rattle.runs.specs.Run.{runLent};
+ghost use Rattle.runs.specs.Run.{runOf, continueOf, dropLent};
 ghost use Rattle.unit.specs.Bank.{leaving};
 ghost use Rattle.unit.specs.Calls.{operateLent, readOf, writeLent};
 ghost use Rattle.pack.specs.Calls.{packAnswer, packedOut, unpackAnswer, unpackedOut};
@@ -267,11 +267,30 @@ pub extern "C" fn tb_operate(
 // A run on a lent bank.
 #[no_mangle]
 pub extern "C" fn tb_run(bank: &mut unit::Bank, ops: &[u8], budget: u32) -> runs::Outcome
-    ensures { λ r. ⌜ leaving r (now (bank .exit)) ≡ runLent (now (bank .entry)) (now (ops .entry)) budget ⌝ }
+    ensures { λ r. ⌜ leaving r (now (bank .exit)) ≡ runOf (now (bank .entry)) (now (ops .entry)) budget ⌝ }
 {
-    let after = runs::run(bank.registers, ops, budget);
+    let after = runs::run(bank.registers, &mut bank.list, ops, budget);
     bank.registers = after.registers;
     after.run
+}
+
+// A run that waits on a lent bank, continued.
+#[no_mangle]
+pub extern "C" fn tb_continue(bank: &mut unit::Bank, ops: &[u8], budget: u32) -> runs::Outcome
+    ensures { λ r. ⌜ leaving r (now (bank .exit)) ≡ continueOf (now (bank .entry)) (now (ops .entry)) budget ⌝ }
+{
+    let after = runs::continue_run(bank.registers, &mut bank.list, ops, budget);
+    bank.registers = after.registers;
+    after.run
+}
+
+// A lent bank that no longer waits.
+#[no_mangle]
+pub extern "C" fn tb_drop(bank: &mut unit::Bank)
+    ensures { λ _. ⌜ now (bank .exit) ≡ dropLent (now (bank .entry)) ⌝ }
+{
+    let after = runs::drop(bank.registers);
+    bank.registers = after;
 }
 
 // The value of one general register of a lent bank.

@@ -1,22 +1,15 @@
--- Req 09: an operation sees neither byte, and carries both along. Assumes nothing.
+-- Reqs 09 and 10: an operation sees words alone, and carries the rest along. Assumes nothing.
 use mathlib.Core.Path.{_≡_, refl, sym, _∙_, ap}
 use mathlib.Core.Bool.{Bool, true, false, cond}
 use mathlib.Core.List.{List}
 use Prim.Native.Nat.{ℕ}
 use lib.Dec.{eqb}
 use Rattle.unit.specs.declared.Registers.{Registers}
-use Rattle.unit.specs.Bank.{withWords, withRegister}
+use Rattle.unit.specs.Bank.{withWords, withRegister, waits}
 use Rattle.unit.specs.Operation.{cyclesOf, operationRefusal, loads, loadOf, effects, effectOf, stepOf, Operation, stepBy}
 use Rattle.unit.specs.Calls.{operated, written, operateOf, numberRefusal, writeOf}
-use Rattle.unit.specs.Lent.{registersOf}
+use Rattle.unit.specs.Lent.{registersOf, bare, carrying}
 use Rattle.unit.proofs.Tables.{by-entry, absent-other}
-
--- the words of the registers alone, and the registers k with the words of others
-abbrev pub bare : Registers → Registers
-bare k = registersOf (k .general) (k .b) (k .ib)
-
-abbrev pub carrying : Registers → Registers → Registers
-carrying k j = withWords k (j .general) (j .b) (j .ib)
 
 module _ (k : Registers) where
   load-carries : (r1 x y : ℕ) → loadOf k r1 x y ≡ carrying k (loadOf (bare k) r1 x y)
@@ -35,27 +28,27 @@ module _ (k : Registers) where
   pub step-carries : (o : Operation) → stepBy k o ≡ carrying k (stepBy (bare k) o)
   step-carries o = effect-carries (o .0) (o .1) _ _
 
-  -- what it leaves of the words, as the code has them, beside both bytes as they were
+  -- what it leaves of the words, as the code has them, beside all else as it was
   pub carried-along : (o : Operation) {g b i : List ℕ} → registersOf g b i ≡ stepBy (bare k) o → withWords k g b i ≡ stepBy k o
   carried-along o e = ap (carrying k) e ∙ sym (step-carries o)
 
-  -- Single operations and writes, refused or not, touch neither byte.
-  pub operate-bytes : (kind r1 r2 r3 : ℕ) → let j = operateOf k kind r1 r2 r3 .registers in (j .status ≡ k .status) × (j .enable ≡ k .enable)
+  -- Single operations and writes, refused or not, change words alone: the status and enable bytes and the marks of waiting are as they were.
+  pub operate-words : (kind r1 r2 r3 : ℕ) → let j = operateOf k kind r1 r2 r3 .registers in j ≡ carrying k j
   unfolding operateOf
-  operate-bytes kind r1 r2 r3 = by-test (eqb (operationRefusal kind r1 r2 r3) 0)
+  operate-words kind r1 r2 r3 = by-test (eqb (operationRefusal (waits k) kind r1 r2 r3) 0)
     where
       e : stepOf k kind r1 r2 r3 ≡ carrying k (stepOf (bare k) kind r1 r2 r3)
       e = step-carries (kind, r1, r2, r3)
 
-      by-test : (t : Bool) → let j = cond t (operated (record { refusal = 0; cycles = cyclesOf kind }) (stepOf k kind r1 r2 r3)) (operated (record { refusal = operationRefusal kind r1 r2 r3; cycles = 0 }) k) .registers in
-          (j .status ≡ k .status) × (j .enable ≡ k .enable)
-      by-test true = (ap (λ (j : Registers). j .status) e, ap (λ (j : Registers). j .enable) e)
-      by-test false = (refl, refl)
+      by-test : (t : Bool) → let j = cond t (operated (record { refusal = 0; cycles = cyclesOf kind }) (stepOf k kind r1 r2 r3)) (operated (record { refusal = operationRefusal (waits k) kind r1 r2 r3; cycles = 0 }) k) .registers in
+          j ≡ carrying k j
+      by-test true = e ∙ ap (carrying k) (sym e)
+      by-test false = refl
 
-  pub write-bytes : (n v : ℕ) → let j = writeOf k n v .registers in (j .status ≡ k .status) × (j .enable ≡ k .enable)
+  pub write-words : (n v : ℕ) → let j = writeOf k n v .registers in j ≡ carrying k j
   unfolding writeOf
-  write-bytes n v = by-test (eqb (numberRefusal n) 0)
+  write-words n v = by-test (eqb (numberRefusal n) 0)
     where
-      by-test : (t : Bool) → let j = cond t (written 0 (withRegister k n v)) (written (numberRefusal n) k) .registers in (j .status ≡ k .status) × (j .enable ≡ k .enable)
-      by-test true = (refl, refl)
-      by-test false = (refl, refl)
+      by-test : (t : Bool) → let j = cond t (written 0 (withRegister k n v)) (written (numberRefusal n) k) .registers in j ≡ carrying k j
+      by-test true = refl
+      by-test false = refl

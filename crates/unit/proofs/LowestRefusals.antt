@@ -10,22 +10,22 @@ use Rattle.unit.specs.declared.Registers.{Registers}
 use Rattle.unit.specs.declared.Operated.{Operated}
 use Rattle.unit.specs.declared.Register.{Register}
 use Rattle.unit.specs.declared.Written.{Written}
-use Rattle.unit.specs.Bank.{register, withRegister}
+use Rattle.unit.specs.Bank.{register, withRegister, waits}
 use Rattle.unit.specs.Operation.{cyclesOf, isKind, usedOf, areRegisters, operationConditions, operationRefusal, stepOf}
 use Rattle.unit.specs.Calls.{operated, written, operateOf, numberConditions, numberRefusal, readOf, writeOf}
 
--- the refusal of an operation, from the outcomes of the two tests
-pub operation-refusal-by : (kind r1 r2 r3 : ℕ) {a b : Bool} → isKind kind r1 ≡ a → areRegisters (usedOf kind r1 r2 r3) ≡ b
-    → operationRefusal kind r1 r2 r3 ≡ lowest ((7, not a) ∷ (8, not b) ∷ [])
+-- the refusal of an operation, from the outcomes of the tests
+pub operation-refusal-by : {other : Bool} (kind r1 r2 r3 : ℕ) {a b c : Bool} → isKind kind r1 ≡ a → areRegisters (usedOf kind r1 r2 r3) ≡ b → other ≡ c
+    → operationRefusal other kind r1 r2 r3 ≡ lowest ((7, not a) ∷ (8, not b) ∷ (14, c) ∷ [])
 unfolding operationRefusal
-operation-refusal-by kind r1 r2 r3 p q = λ i. lowest ((7, not (p i)) ∷ (8, not (q i)) ∷ [])
+operation-refusal-by kind r1 r2 r3 p q r = λ i. lowest ((7, not (p i)) ∷ (8, not (q i)) ∷ (14, r i) ∷ [])
 
 module _ (k : Registers) where
   pub operate-lowest : (kind r1 r2 r3 : ℕ)
-      → AnswersLowest (operationConditions kind r1 r2 r3) (λ a. a .answer .refusal) (λ n. operated (record { refusal = n; cycles = 0 }) k) (operateOf k kind r1 r2 r3)
+      → AnswersLowest (operationConditions (waits k) kind r1 r2 r3) (λ a. a .answer .refusal) (λ n. operated (record { refusal = n; cycles = 0 }) k) (operateOf k kind r1 r2 r3)
   unfolding operateOf operationRefusal
   operate-lowest kind r1 r2 r3 =
-      answers-lowest (operationConditions kind r1 r2 r3) (omega arith) (λ (a : Operated). a .answer .refusal)
+      answers-lowest (operationConditions (waits k) kind r1 r2 r3) (omega arith) (λ (a : Operated). a .answer .refusal)
       (λ n. operated (record { refusal = n; cycles = 0 }) k)
       (operated (record { refusal = 0; cycles = cyclesOf kind }) (stepOf k kind r1 r2 r3)) refl (λ n. refl)
 

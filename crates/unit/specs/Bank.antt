@@ -1,27 +1,37 @@
--- The register bank of paper 01, 'The register unit': sixteen general registers, and two triples that hold controls; of paper 02, Req 09, two bytes more.
--- Assumes nothing.
+-- The register bank of paper 01, 'The register unit': sixteen general registers, and two triples that hold controls; of paper 02, Req 09, two bytes more, and of
+-- Req 10 what it remembers of a run that waits. Assumes nothing.
 use Prim.Native.Nat.{ℕ, _+_, _*_, _/_, _%_, _^_}
+use mathlib.Core.Bool.{Bool, not}
 use mathlib.Core.List.{List, [], _∷_}
+use lib.Dec.{eqb}
 use lib.ListN.{getD, set, replicate}
 use Rattle.unit.specs.declared.Registers.{Registers}
 use Rattle.unit.specs.declared.Bank.{Bank}
 
--- "all zero when fresh"; Req 09: "The register bank gains a status byte and an enable byte, both zero when fresh."
+-- "all zero when fresh"; Req 09: "The register bank gains a status byte and an enable byte, both zero when fresh."; Req 10: "A fresh
+-- bank does not wait."
 abbrev pub fresh : Registers
-fresh = record { general = replicate 16 0; b = replicate 3 0; ib = replicate 3 0; status = 0; enable = 0 }
+fresh = record { general = replicate 16 0; b = replicate 3 0; ib = replicate 3 0; status = 0; enable = 0; waiting = 0; left = 0 }
 
 abbrev pub freshBank : Bank
-freshBank = record { registers = fresh }
+freshBank = record { registers = fresh; list = replicate 4096 0 }
 
--- the registers k with other words, and with one other byte
+-- the registers k with other words, with one other byte, and with other marks of waiting: whether it waits, and the number of bytes left
 abbrev pub withWords : Registers → List ℕ → List ℕ → List ℕ → Registers
-withWords k g b i = record { general = g; b = b; ib = i; status = k .status; enable = k .enable }
+withWords k g b i = record { general = g; b = b; ib = i; status = k .status; enable = k .enable; waiting = k .waiting; left = k .left }
 
 abbrev pub withStatus : Registers → ℕ → Registers
-withStatus k s = record { general = k .general; b = k .b; ib = k .ib; status = s; enable = k .enable }
+withStatus k s = record { general = k .general; b = k .b; ib = k .ib; status = s; enable = k .enable; waiting = k .waiting; left = k .left }
 
 abbrev pub withEnable : Registers → ℕ → Registers
-withEnable k e = record { general = k .general; b = k .b; ib = k .ib; status = k .status; enable = e }
+withEnable k e = record { general = k .general; b = k .b; ib = k .ib; status = k .status; enable = e; waiting = k .waiting; left = k .left }
+
+abbrev pub withWaiting : Registers → ℕ → ℕ → Registers
+withWaiting k w n = record { general = k .general; b = k .b; ib = k .ib; status = k .status; enable = k .enable; waiting = w; left = n }
+
+-- "The bank remembers that it waits": does it? Zero is that it does not.
+abbrev pub waits : Registers → Bool
+waits k = not (eqb (k .waiting) 0)
 
 -- general register n
 abbrev pub register : Registers → ℕ → ℕ
@@ -37,9 +47,12 @@ withB k rs = withWords k (k .general) rs (k .ib)
 abbrev pub withIb : Registers → List ℕ → Registers
 withIb k rs = withWords k (k .general) (k .b) rs
 
--- the bank with other registers
+-- the bank of registers and a list, and a bank with other registers
+abbrev pub bankOf : Registers → List ℕ → Bank
+bankOf rs l = record { registers = rs; list = l }
+
 abbrev pub withRegisters : Bank → Registers → Bank
-withRegisters k rs = record { registers = rs }
+withRegisters k rs = bankOf rs (k .list)
 
 -- an answer, and beside it the bank that the call leaves
 abbrev pub leaving : {A : Type 0} → A → Bank → A × Bank

@@ -10,7 +10,7 @@ use Rattle.unit.specs.declared.Cycles.{Cycles}
 use Rattle.unit.specs.declared.Operated.{Operated}
 use Rattle.unit.specs.declared.Register.{Register}
 use Rattle.unit.specs.declared.Written.{Written}
-use Rattle.unit.specs.Bank.{register, withRegister, withRegisters, leaving}
+use Rattle.unit.specs.Bank.{register, withRegister, waits, withRegisters, leaving}
 use Rattle.unit.specs.Operation.{cyclesOf, operationRefusal, stepOf, Operation}
 
 -- an answer and the registers beside it
@@ -21,12 +21,13 @@ abbrev pub written : ℕ → Registers → Written
 written r k = record { refusal = r; registers = k }
 
 -- "One operation alone answers its cycles." Its cycles and the registers after it; refused, its number, zero cycles and the registers as they were. Req 09:
--- "single operations, refused or not, touch neither byte", of status and enable: whatever sets a register carries both along (`withWords`).
+-- "single operations, refused or not, touch neither byte", of status and enable: whatever sets a register carries both along (`withWords`). Req 10: "Single
+-- operations and a new run are turned back until it is done or dropped".
 unfoldable pub operateOf : Registers → ℕ → ℕ → ℕ → ℕ → Operated
 operateOf k kind r1 r2 r3 =
-    cond (eqb (operationRefusal kind r1 r2 r3) 0)
+    cond (eqb (operationRefusal (waits k) kind r1 r2 r3) 0)
     (record { answer = record { refusal = 0; cycles = cyclesOf kind }; registers = stepOf k kind r1 r2 r3 })
-    (record { answer = record { refusal = operationRefusal kind r1 r2 r3; cycles = 0 }; registers = k })
+    (record { answer = record { refusal = operationRefusal (waits k) kind r1 r2 r3; cycles = 0 }; registers = k })
 
 -- the registers that these calls leave, one after the other
 unfoldable pub operatesOf : Registers → List Operation → Registers

@@ -9,9 +9,16 @@ use Rattle.network.specs.Word.{preparedOf}
 use Rattle.unit.specs.declared.Registers.{Registers}
 use Rattle.unit.specs.Bank.{fresh, withWords, stagesOf}
 
--- the registers of these words, both bytes zero: inner functions see no byte
+-- the registers of these words, all else zero: inner functions see words alone
 abbrev pub registersOf : List ℕ → List ℕ → List ℕ → Registers
 registersOf g b i = withWords fresh g b i
+
+-- the words of the registers k alone, and k with the words of others
+abbrev pub bare : Registers → Registers
+bare k = registersOf (k .general) (k .b) (k .ib)
+
+abbrev pub carrying : Registers → Registers → Registers
+carrying k j = withWords k (j .general) (j .b) (j .ib)
 
 -- they are as many as a bank has
 abbrev pub Sized : List ℕ → List ℕ → List ℕ → Type 0

@@ -54,12 +54,12 @@ abbrev pub areRegisters : List ℕ → Bool
 areRegisters [] = true
 areRegisters (n ∷ ns) = areRegisters ns && leb n 15
 
--- 'Calls turned back': 7, "kind not 1 to 10, or in kind 5 r1 not 1 to 4"; 8, "a register number in use above 15"
-abbrev pub operationConditions : ℕ → ℕ → ℕ → ℕ → List (ℕ × Bool)
-operationConditions kind r1 r2 r3 = (7, not (isKind kind r1)) ∷ (8, not (areRegisters (usedOf kind r1 r2 r3))) ∷ []
+-- 'Calls turned back': 7, "kind not 1 to 10, or in kind 5 r1 not 1 to 4"; 8, "a register number in use above 15"; of paper 02, Req 10, 14, "another run waits"
+abbrev pub operationConditions : Bool → ℕ → ℕ → ℕ → ℕ → List (ℕ × Bool)
+operationConditions other kind r1 r2 r3 = (7, not (isKind kind r1)) ∷ (8, not (areRegisters (usedOf kind r1 r2 r3))) ∷ (14, other) ∷ []
 
-unfoldable pub operationRefusal : ℕ → ℕ → ℕ → ℕ → ℕ
-operationRefusal kind r1 r2 r3 = lowest (operationConditions kind r1 r2 r3)
+unfoldable pub operationRefusal : Bool → ℕ → ℕ → ℕ → ℕ → ℕ
+operationRefusal other kind r1 r2 r3 = lowest (operationConditions other kind r1 r2 r3)
 
 -- "r1 = 1: b1, b2 = r2, r3; 2: b3 = r2; 3: ib1, ib2 = r2, r3; 4: ib3 = r2", of the words x and y in r2 and r3
 abbrev pub loads : Registers → ℕ → ℕ → List (ℕ × Registers)

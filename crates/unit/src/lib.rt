@@ -14,7 +14,7 @@ ghost use Rattle.unit.specs.Calls.{operated, operateOf, numberRefusal, r
 ghost use Rattle.unit.specs.Operation.{cyclesOf, isKind, usedOf, areRegisters, operationRefusal, operationAt, stepBy};
 
 // The registers of the unit: sixteen general ones, and the controls of both networks, two stages a register, the earlier one in the low half; the status byte,
-// and the byte that says which of its bits raise the interrupt line.
+// and the byte that says which of its bits raise the interrupt line; of a run that waits, that it does (not zero), and how many bytes of its list are left.
 #[repr(C)]
 pub struct Registers {
     pub general: [u64; 16],
@@ -22,12 +22,15 @@ pub struct Registers {
     pub ib: [u64; 3],
     pub status: u8,
     pub enable: u8,
+    pub waiting: u8,
+    pub left: u32,
 }
 
-// What the host lends.
+// What the host lends: the registers, and the bytes of the operations left at the start of a list.
 #[repr(C)]
 pub struct Bank {
     pub registers: Registers,
+    pub list: [u8; 4096],
 }
 
 // The table's figures, by kind: a hexadecimal digit each, kind 0 at the right. (An array would be built anew at each look.)
@@ -261,15 +264,18 @@ pub fn are_registers(kind: u8, r1: u8, r2: u8, r3: u8) -> bool
     !is_kind(kind, r1) | third & second & first
 }
 
-// The lowest refusal of an operation; 0 if it is carried out.
-fn operation_refusal(kind: u8, r1: u8, r2: u8, r3: u8) -> u8
-    ensures { λ r. ⌜ r ≡ operationRefusal kind r1 r2 r3 ⌝ }
+// The lowest refusal of an operation, where another run waits or not; 0 if it is carried out.
+fn operation_refusal(other: bool, kind: u8, r1: u8, r2: u8, r3: u8) -> u8
+    ensures { λ r. ⌜ r ≡ operationRefusal other kind r1 r2 r3 ⌝ }
 {
     if !is_kind(kind, r1) {
         return bits::KIND;
     }
     if !are_registers(kind, r1, r2, r3) {
         return bits::REGISTER;
+    }
+    if other {
+        return bits::WAITING;
     }
     bits::CARRIED_OUT
 }
@@ -360,7 +366,7 @@ fn turned_back(registers: Registers, number: u8) -> Operated
 pub fn operate(registers: Registers, kind: u8, r1: u8, r2: u8, r3: u8) -> Operated
     ensures { λ r. ⌜ r ≡ operateOf registers kind r1 r2 r3 ⌝ }
 {
-    let refused = operation_refusal(kind, r1, r2, r3);
+    let refused = operation_refusal(registers.waiting != 0, kind, r1, r2, r3);
     if refused != 0 {
         return turned_back(registers, refused);
     }
@@ -390,6 +396,8 @@ pub fn operate(registers: Registers, kind: u8, r1: u8, r2: u8, r3: u8) -> Operat
             ib,
             status: registers.status,
             enable: registers.enable,
+            waiting: registers.waiting,
+            left: registers.left,
         },
     }
 }

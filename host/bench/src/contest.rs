@@ -45,6 +45,12 @@ impl<I: 'static, O: Debug + PartialEq> Contest<I, O> {
         contest.beside("library", library)
     }
 
+    /// The same, where the time of the whole input is wanted.
+    pub fn whole(mut self) -> Self {
+        self.parts = 1;
+        self
+    }
+
     /// Beside the others a peer, which must answer as the library does.
     pub fn peer(self, name: &'static str, call: impl Fn(&I) -> O + 'static) -> Self {
         self.assert_same(name, &call);

@@ -118,7 +118,7 @@ fn counts_by_byte(mask: u64) -> [u8; 64] {
 
 /// The lowest three binary digits of all counts, each in a word, make the stages of
 /// distance 1, 2 and 4 for all blocks at once; the others as before.
-fn by_digits(mask: u64) -> TbControls2 {
+pub fn by_digits(mask: u64) -> TbControls2 {
     let ones = parities_below(mask);
     let twos = parities_below(mask & ones);
     let fours = parities_below(mask & ones & twos);

@@ -10,15 +10,17 @@ use crate::subwords::OfPair;
 use crate::table::{print_heading, print_line};
 use crate::tiles::OfTile;
 use crate::timing::{inputs, Calls};
+use crate::waiting::{waiting_bank, Job, Registers, LIBRARY, OPERATIONS};
 use conformance::low_ones;
 use conformance::pixels::Shape;
 use conformance::planes::Words;
 use conformance::programs::{bank, program, Form, FORMS};
 use conformance::samples::{random_eight, random_permutation, Random};
 use conformance::unit::lent;
+use std::cell::RefCell;
 use std::hint::black_box;
 use tigbayon::{
-    tb_acknowledge, tb_butterfly, tb_butterfly_prepared, tb_check, tb_decode, tb_enable,
+    tb_acknowledge, tb_butterfly, tb_butterfly_prepared, tb_check, tb_decode, tb_drop, tb_enable,
     tb_exchange, tb_excheck, tb_from_planes, tb_gather, tb_group, tb_interrupt, tb_inverse,
     tb_inverse_prepared, tb_mix_left, tb_mix_right, tb_operate, tb_prepare_butterfly,
     tb_prepare_inverse, tb_read, tb_route, tb_route_butterfly, tb_route_groups, tb_route_inverse,
@@ -43,7 +45,7 @@ type BySize = (&'static str, fn(usize) -> Calls);
 const CALL: &str = "call";
 
 /// All calls, by what they may grow with.
-pub const GROWTHS: [Growth; 6] = [
+pub const GROWTHS: [Growth; 7] = [
     Growth {
         name: "by width",
         sizes: &[8, 16, 32, 64],
@@ -126,7 +128,24 @@ pub const GROWTHS: [Growth; 6] = [
         name: "by operations",
         sizes: &[1, 4, 16, 64, 256, 1_024],
         each: "operation",
-        calls: &[("run", |operations| ran(operations, program))],
+        calls: &[
+            ("run", |operations| ran(operations, program)),
+            // The list is checked and copied; continue compares it too.
+            ("run_budget_0", |operations| {
+                worked(operations, 1, |job| job.start(LIBRARY))
+            }),
+            ("continue_budget_0", |operations| {
+                worked(operations, 1, |job| job.wait_on(LIBRARY))
+            }),
+        ],
+    },
+    Growth {
+        name: "run by turns",
+        sizes: &[1, 2, 4, 8, 16],
+        each: CALL,
+        calls: &[("run_in_turns", |turns| {
+            worked(OPERATIONS, turns as u32, |job| job.in_turns(LIBRARY))
+        })],
     },
     Growth {
         name: "run by kind",
@@ -177,14 +196,20 @@ pub const GROWTHS: [Growth; 6] = [
             ("acknowledge", |_| {
                 on_bank(1, program, |bank, list| tb_acknowledge(bank, list[0]))
             }),
+            // The same where a run waits with the longest list.
+            ("write_waiting", |_| {
+                on_waiting_bank(|bank, list| tb_write(bank, list[0], 1))
+            }),
+            ("acknowledge_waiting", |_| {
+                on_waiting_bank(|bank, list| tb_acknowledge(bank, list[0]))
+            }),
+            ("drop_waiting", |_| on_waiting_bank(|bank, _| tb_drop(bank))),
             // What the timing takes of that: a fresh bank, and of all calls.
             ("bank", |_| on_bank(1, program, |_, _| ())),
-            ("read", |_| calls(1, random_bank, |bank| tb_read(bank, 1))),
-            ("status", |_| calls(1, random_bank, |bank| tb_status(bank))),
-            ("interrupt", |_| {
-                calls(1, random_bank, |bank| tb_interrupt(bank))
-            }),
-            ("nothing", |_| calls(1, random_bank, |_| ())),
+            ("read", |_| reading(|bank| tb_read(bank, 1))),
+            ("status", |_| reading(|bank| tb_status(bank))),
+            ("interrupt", |_| reading(|bank| tb_interrupt(bank))),
+            ("nothing", |_| reading(|_| ())),
         ],
     },
 ];
@@ -304,8 +329,17 @@ fn paired(size: usize, call: OfPair) -> Calls {
     calls(1, make, move |&(first, second)| call(size, first, second))
 }
 
-fn random_bank(random: &mut Random) -> TbBank {
-    lent(&bank(random))
+/// A call that only reads a bank, on fewer of them than other calls have inputs: each lies
+/// in a page of its own.
+fn reading<A>(call: impl Fn(&TbBank) -> A + 'static) -> Calls {
+    calls(8, |random| lent(&bank(random)), move |bank| call(bank))
+}
+
+/// A call of a list of so many operations for so many turns, and of a bank that waits with
+/// the list; on few of them, since each is large.
+fn worked<A>(operations: usize, turns: u32, call: impl Fn(&Job) -> A + 'static) -> Calls {
+    let make = |random: &mut Random| Job::of(random, operations, turns);
+    calls(operations.max(64), make, call)
 }
 
 /// So many operations, in bytes.
@@ -340,12 +374,30 @@ fn on_bank<A>(
     program: Program,
     call: impl Fn(&mut TbBank, &[u8]) -> A + 'static,
 ) -> Calls {
+    on_copy(TbBank::default(), operations, program, call)
+}
+
+/// The same of one operation, where the bank waits with the longest list.
+fn on_waiting_bank<A>(call: impl Fn(&mut TbBank, &[u8]) -> A + 'static) -> Calls {
+    let list = program(&mut Random::default(), OPERATIONS as u32);
+    on_copy(waiting_bank(&list), 1, program, call)
+}
+
+/// The same of this bank, to which random registers are copied each time.
+fn on_copy<A>(
+    bank: TbBank,
+    operations: usize,
+    program: Program,
+    call: impl Fn(&mut TbBank, &[u8]) -> A + 'static,
+) -> Calls {
     let make = |random: &mut Random| {
         let list = program(random, operations as u32);
-        (random_bank(random), list)
+        (Registers::of(random), list)
     };
-    calls(operations, make, move |(bank, list)| {
-        let mut fresh = *bank;
-        call(black_box(&mut fresh), list)
+    let (waiting, bank) = (bank.waiting, RefCell::new(bank));
+    calls(operations, make, move |(registers, list)| {
+        let bank = &mut *bank.borrow_mut();
+        registers.copy_to(bank, waiting);
+        call(black_box(bank), list)
     })
 }

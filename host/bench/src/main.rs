@@ -29,6 +29,8 @@ mod table;
 mod tiles;
 mod timing;
 mod twin;
+mod unit;
+mod waiting;
 
 use growth::GROWTHS;
 use std::env;
@@ -40,7 +42,7 @@ const WIDTH: u32 = 64;
 /// A contest runs the call of its name.
 type Bench = (&'static str, fn(&str));
 
-const CONTESTS: [Bench; 29] = [
+const CONTESTS: [Bench; 31] = [
     ("butterfly", networks::butterfly),
     ("inverse", networks::inverse),
     ("prepare_butterfly", networks::prepare_butterfly),
@@ -70,6 +72,8 @@ const CONTESTS: [Bench; 29] = [
     ("mix_right", subwords::mix_right),
     ("exchange", subwords::exchange),
     ("despeckle", pixels::despeckle),
+    ("run", waiting::run),
+    ("continue", waiting::continue_run),
 ];
 
 const BY_MASK: &str = "by mask";

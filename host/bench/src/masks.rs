@@ -79,7 +79,7 @@ pub fn group(name: &str) {
 }
 
 /// A function of mask and word.
-trait Peer: Fn(u64, u64) -> u64 + 'static {}
+pub trait Peer: Fn(u64, u64) -> u64 + 'static {}
 
 impl<F: Fn(u64, u64) -> u64 + 'static> Peer for F {}
 
@@ -120,7 +120,7 @@ fn scatter_by_loop(mask: u64, word: u64) -> u64 {
 }
 
 /// Gathers the marked bits, and beside them the unmarked ones.
-fn group_by(gather: impl Peer) -> impl Peer {
+pub fn group_by(gather: impl Peer) -> impl Peer {
     move |mask, word| {
         let left = gather(!mask, word).checked_shl(mask.count_ones());
         gather(mask, word) | left.unwrap_or(0)

@@ -182,6 +182,14 @@ impl<'a> Text<'a> {
         Ok(numbers)
     }
 
+    /// The same, where there is at least one.
+    pub fn one_or_more<T: TryFrom<u64>>(&self, base: Base) -> Result<Vec<T>, Failure> {
+        match entries(self.text).count() {
+            0 | 1 => Ok(vec![self.number(base)?]),
+            _ => self.numbers(base),
+        }
+    }
+
     /// Two numbers with these names, and an equals sign between them.
     pub fn pair<T: TryFrom<u64>, U: TryFrom<u64>>(
         &self,

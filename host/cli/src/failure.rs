@@ -21,7 +21,7 @@ pub enum Failure {
         refusal: Refusal,
         /// The part of the arguments that it was refused for, if one is named.
         part: Option<String>,
-        /// A line below that, if there is more to tell.
+        /// Lines below that, if there is more to tell.
         below: Option<String>,
     },
     /// What is named here could not be written.
@@ -56,6 +56,7 @@ pub const CONDITIONS: [&str; Refusal::ALL.len()] = [
     "a spare bit of the last packed word read is one",
     "subword size not 1, 2, 4, 8, 16, 32",
     "no rows, no words in a row, or the plane's length not their product",
+    "another run waits, or none does, or the list is not the remainder",
 ];
 
 /// The condition of a refusal.
@@ -81,6 +82,21 @@ impl Failure {
             Failure::Argument { problem, .. } => {
                 let command = Some(name);
                 Failure::Argument { problem, command }
+            }
+            other => other,
+        }
+    }
+
+    /// The same failure, with these lines below it if it is a refusal.
+    pub fn above(self, lines: String) -> Self {
+        match self {
+            Failure::Refused { refusal, part, .. } => {
+                let below = Some(lines);
+                Failure::Refused {
+                    refusal,
+                    part,
+                    below,
+                }
             }
             other => other,
         }
@@ -122,7 +138,7 @@ impl fmt::Display for Failure {
                 let (number, condition) = (refusal.number(), condition(*refusal));
                 write!(f, "refused {number}: {condition}")?;
                 part.iter().try_for_each(|part| write!(f, " ({part})"))?;
-                below.iter().try_for_each(|line| write!(f, "\n{line}"))
+                below.iter().try_for_each(|lines| write!(f, "\n{lines}"))
             }
             Failure::Unwritten(what, error) => write!(f, "cannot write {what}: {error}"),
         }

@@ -15,6 +15,7 @@ mod number;
 mod paths;
 mod picture;
 mod plane;
+mod turns;
 
 use answer::Answer;
 use args::Given;

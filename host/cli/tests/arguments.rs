@@ -2,22 +2,7 @@
 
 mod support;
 
-use support::{command, outcome, run, Outcome};
-
-/// Asserts that the arguments are not read, and that the message holds these
-/// words and the hint.
-fn assert_unread(args: &[&str], words: &str) {
-    let Outcome {
-        status,
-        output,
-        error,
-    } = run(args);
-    assert_eq!((status, output.as_str()), (1, ""), "{args:?}");
-    assert!(error.contains(words), "{args:?}: {error}");
-    let hint = error.lines().last().unwrap();
-    assert!(hint.starts_with("see tigbayon"), "{args:?}: {error}");
-    assert!(hint.ends_with("--help"), "{args:?}: {error}");
-}
+use support::{assert_unread, command, outcome, run, Outcome};
 
 #[test]
 fn commands() {

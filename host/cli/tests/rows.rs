@@ -67,8 +67,9 @@ fn row_9_either_network_alone() {
     }
 }
 
-/// The first lines that the run of rows 10 and 10b prints with this budget: how
-/// it ended, the status byte with the interrupt line, and the general registers.
+/// The lines that the run of rows 10 and 10b prints with this budget: how it ended, the
+/// status byte with the interrupt line, the general registers, and what is left if it
+/// waits.
 fn run_of_row_10(budget: u32) -> Vec<String> {
     let list = "8,0,0,3,3,1,2,3";
     let line = format!("run {list} --budget {budget} --set 2=0xB6 --set 3=0xAD");
@@ -86,7 +87,15 @@ fn rows_10_and_10b_run() {
     let lines = ["done, 2 run, 3 cycles", polled, result, set[0], set[1]];
     assert_eq!(run_of_row_10(3), lines);
     let polled = "status 0x2 (spent), interrupt line low";
-    let lines = ["spent, 1 run, 2 cycles", polled, set[0], set[1]];
+    let left = ["waits, 1 left to run, 4 bytes", "remainder 3,1,2,3"];
+    let lines = [
+        "spent, 1 run, 2 cycles",
+        polled,
+        set[0],
+        set[1],
+        left[0],
+        left[1],
+    ];
     assert_eq!(run_of_row_10(2), lines);
 }
 

@@ -4,13 +4,13 @@ mod support;
 
 use support::{run, Outcome};
 
-/// Runs that end each way, and the first line that each prints. Only the last one sets
-/// registers; it is refused, and shows none.
+/// Runs that end each way, and the first line that each prints. Each that is spent has one
+/// operation left. Only the last one sets registers; it is refused, and shows none.
 const RUNS: [(&[&str], &str); 8] = [
     (&[""], "done, 0 run, 0 cycles"),
     (&["6,1,2,3", "--budget=3"], "done, 1 run, 3 cycles"),
     (&["6,1,2,3", "--budget=2"], "spent, 0 run, 0 cycles"),
-    (&["6,1,2,3,7,1,2,3", "--budget=5"], "spent, 1 run, 3 cycles"),
+    (&["7,1,2,3,6,1,2,3", "--budget=5"], "spent, 1 run, 3 cycles"),
     (
         &["6,1,2"],
         "\
@@ -46,6 +46,8 @@ fn assert_polled(options: &[&str], enable: u8) {
         let (status, words) = status_after(first);
         let line = if status & enable == 0 { "low" } else { "high" };
         let lines = format!("{first}\nstatus {words}, interrupt line {line}\n");
+        let left = "waits, 1 left to run, 4 bytes\nremainder 6,1,2,3\n";
+        let left = if status == 0b010 { left } else { "" };
         let args = [&["run"], args, options].concat();
         let Outcome {
             status,
@@ -55,7 +57,7 @@ fn assert_polled(options: &[&str], enable: u8) {
         let expected = if first.starts_with("refused") {
             (2, String::new(), lines)
         } else {
-            (0, lines, String::new())
+            (0, lines + left, String::new())
         };
         assert_eq!((status, output, error), expected, "{args:?}");
     }

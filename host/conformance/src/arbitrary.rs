@@ -4,9 +4,9 @@
 use crate::controls::Controls;
 use crate::packing::{spare, words_needed, LONGEST};
 use crate::pixels::{wrapping_to, Plane, Shape, LONGEST_SHAPES};
-use crate::programs::{cycles, damage, program};
+use crate::programs::{self, bank, cycles, damage, program};
 use crate::samples::{any_controls, any_permutation, any_word, Random};
-use crate::unit::Operation;
+use crate::unit::{Bank, Operation};
 use crate::{SIZES, WIDTHS};
 
 /// A width to hand over, and the accepted one that the other arguments are made
@@ -200,9 +200,8 @@ pub fn operation(random: &mut Random) -> Operation {
 /// A list of operations; some have another length, or bytes that are any.
 pub fn list(random: &mut Random) -> Vec<u8> {
     let operations = match random.below(32) {
-        0 => 1_024,
-        1 => 1_025,
-        _ => random.below(13),
+        0 => 1_025,
+        _ => operations(random),
     };
     let mut list = program(random, operations);
     match random.below(8) {
@@ -215,6 +214,69 @@ pub fn list(random: &mut Random) -> Vec<u8> {
         _ => {}
     }
     list
+}
+
+/// How many operations a list has: mostly few, or as many as it may.
+fn operations(random: &mut Random) -> u32 {
+    match random.below(32) {
+        0 => 1_024,
+        _ => random.below(13),
+    }
+}
+
+/// A bank that waits, or does not; some of those that wait remember more than there is.
+pub fn any_bank(random: &mut Random) -> Bank {
+    let any = random.byte();
+    let waiting = random.pick(&[0, 0, 1, any]);
+    Bank {
+        waiting,
+        ..bank(random)
+    }
+}
+
+/// A bank to run this list on; some remember it, and some of these wait.
+pub fn bank_for(random: &mut Random, list: &[u8]) -> Bank {
+    let mut bank = any_bank(random);
+    if random.below(4) == 0 {
+        remember(&mut bank, list);
+    }
+    bank
+}
+
+/// Makes this list the remainder, as far as the bank can hold it.
+fn remember(bank: &mut Bank, list: &[u8]) {
+    let held = list.len().min(programs::LONGEST);
+    bank.left = list.len() as u32;
+    bank.list[..held].copy_from_slice(&list[..held]);
+}
+
+/// A bank and the list that its run is continued with: mostly the remainder. Some of
+/// these are refused, whatever is remembered; some banks do not wait; some remainders
+/// differ from the list in a byte, or in length.
+pub fn continued(random: &mut Random) -> (Bank, Vec<u8>) {
+    let mut list = match random.below(4) {
+        0 => list(random),
+        _ => {
+            let operations = operations(random);
+            program(random, operations)
+        }
+    };
+    let mut bank = any_bank(random);
+    bank.waiting = bank.waiting.max(1);
+    // What stands after the remainder could be more of it.
+    bank.list[..64].copy_from_slice(&program(random, 16));
+    remember(&mut bank, &list);
+    let held = list.len().min(programs::LONGEST);
+    match random.below(16) {
+        0 => bank.waiting = 0,
+        1 => damage(random, &mut list),
+        2 => damage(random, &mut bank.list[..held]),
+        3 => bank.left ^= 1 << random.below(32),
+        4 => list.truncate(held.saturating_sub(4)),
+        5 => list.extend(&bank.list[held..programs::LONGEST.min(held + 4)]),
+        _ => {}
+    }
+    (bank, list)
 }
 
 /// A budget for this list: none, small, around its cycles, or any.

@@ -1,8 +1,9 @@
 //! Every exported call on arbitrary arguments, held against its model in the
 //! whole answer and in everything that is lent.
 
-use crate::arbitrary::{budget, controls, cut, end, length, list, operation, other_length};
-use crate::arbitrary::{byte, permutation, plane, register, size, widths, word};
+use crate::arbitrary::{any_bank, bank_for, budget, continued, list, operation};
+use crate::arbitrary::{byte, controls, cut, end, length, other_length};
+use crate::arbitrary::{permutation, plane, register, size, widths, word};
 use crate::call::{Call, BUTTERFLY, DECODE, GATHER, GROUP, INVERSE, SCATTER};
 use crate::call::{CHECK, EXCHANGE, EXCHECK, MIX_LEFT, MIX_RIGHT};
 use crate::call::{PREPARE_BUTTERFLY, PREPARE_INVERSE};
@@ -12,10 +13,10 @@ use crate::packing::{PackingCall, PACK, UNPACK};
 use crate::pixels::despeckle;
 use crate::planes::{turned_over, Conversion, FROM_PLANES, TO_PLANES};
 use crate::prepared::{Passage, THROUGH_BUTTERFLY, THROUGH_INVERSE};
-use crate::programs::bank;
 use crate::samples::{any_controls, any_eight, any_swaps, any_word, random_words, Random};
 use crate::tiles::{Movement, MIRROR_COLUMNS, MIRROR_ROWS, TRANSPOSE, TURN_LEFT, TURN_RIGHT};
-use crate::unit::{acknowledge, enable, interrupt, operate, read, run, status, write};
+use crate::unit::{acknowledge, enable, interrupt, status};
+use crate::unit::{continue_run, drop_run, operate, read, run, write};
 use crate::WIDTHS;
 use model::gather::Gathered;
 use model::prepared::Swaps;
@@ -25,7 +26,7 @@ use std::iter::zip;
 use std::panic::{catch_unwind, resume_unwind};
 
 /// How many refusal numbers there are, 0 among them.
-const NUMBERS: usize = 14;
+const NUMBERS: usize = 15;
 
 /// An exported call.
 struct Target {
@@ -36,7 +37,7 @@ struct Target {
     check: fn(&mut Random) -> u8,
 }
 
-const TARGETS: [Target; 37] = [
+const TARGETS: [Target; 39] = [
     target("gather", &[0, 1, 2], |random| masked(random, GATHER)),
     target("scatter", &[0, 1, 2], |random| masked(random, SCATTER)),
     target("group", &[0, 1, 2], |random| masked(random, GROUP)),
@@ -108,34 +109,43 @@ const TARGETS: [Target; 37] = [
         let mut out = random_words(random, out_length);
         despeckle(&plane, shape, &mut out).refusal
     }),
-    target("operate", &[0, 7, 8], |random| {
-        operate(&mut bank(random), operation(random)).refusal
+    target("operate", &[0, 7, 8, 14], |random| {
+        operate(&mut any_bank(random), operation(random)).refusal
     }),
-    target("run", &[0, 4, 7, 8], |random| {
+    target("run", &[0, 4, 7, 8, 14], |random| {
         let list = list(random);
         let budget = budget(random, &list);
-        run(&mut bank(random), &list, budget).refusal
+        run(&mut bank_for(random, &list), &list, budget).refusal
+    }),
+    target("continue", &[0, 4, 7, 8, 14], |random| {
+        let (mut bank, list) = continued(random);
+        let budget = budget(random, &list);
+        continue_run(&mut bank, &list, budget).refusal
+    }),
+    target("drop", &[0], |random| {
+        drop_run(&mut any_bank(random));
+        NONE
     }),
     target("read", &[0, 8], |random| {
-        read(&bank(random), register(random)).refusal
+        read(&any_bank(random), register(random)).refusal
     }),
     target("write", &[0, 8], |random| {
-        write(&mut bank(random), register(random), random.word()).refusal
+        write(&mut any_bank(random), register(random), random.word()).refusal
     }),
     target("status", &[0], |random| {
-        status(&bank(random));
+        status(&any_bank(random));
         NONE
     }),
     target("enable", &[0], |random| {
-        enable(&mut bank(random), byte(random));
+        enable(&mut any_bank(random), byte(random));
         NONE
     }),
     target("acknowledge", &[0], |random| {
-        acknowledge(&mut bank(random), byte(random));
+        acknowledge(&mut any_bank(random), byte(random));
         NONE
     }),
     target("interrupt", &[0], |random| {
-        interrupt(&bank(random));
+        interrupt(&any_bank(random));
         NONE
     }),
 ];

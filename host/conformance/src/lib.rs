@@ -7,6 +7,8 @@ pub mod fuzz;
 pub mod guards;
 mod lists;
 pub mod packing;
+#[cfg(target_os = "linux")]
+pub mod pages;
 pub mod permutations;
 pub mod pixels;
 pub mod planes;

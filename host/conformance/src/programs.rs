@@ -94,7 +94,8 @@ pub fn cycles(list: &[u8]) -> u32 {
     figures.sum()
 }
 
-/// A bank of random, sparse and dense words, and any two bytes.
+/// A bank of random, sparse and dense words, and any two bytes. It does not wait,
+/// whatever it remembers.
 pub fn bank(random: &mut Random) -> Bank {
     let mut word = || match random.below(4) {
         0 => random.word() & random.word() & random.word(),
@@ -107,7 +108,28 @@ pub fn bank(random: &mut Random) -> Bank {
         ib: std::array::from_fn(|_| word()),
         status: random.byte(),
         enable: random.byte(),
+        waiting: 0,
+        left: random.word() as u32 >> random.below(32),
+        list: any_list(random),
     }
+}
+
+/// Any bytes.
+fn any_list(random: &mut Random) -> [u8; LONGEST] {
+    let mut list = [0; LONGEST];
+    for bytes in list.chunks_exact_mut(8) {
+        bytes.copy_from_slice(&random.word().to_le_bytes());
+    }
+    list
+}
+
+/// Such a bank that waits, with this remainder and any bytes after it.
+pub fn waiting_bank(random: &mut Random, remainder: &[u8]) -> Bank {
+    let mut bank = bank(random);
+    bank.waiting = random.pick(&[1, 1, 2, 128, 255]);
+    bank.left = remainder.len() as u32;
+    bank.list[..remainder.len()].copy_from_slice(remainder);
+    bank
 }
 
 /// So many operations of random forms. Bytes not used are any bytes. The

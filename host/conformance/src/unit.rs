@@ -7,9 +7,8 @@ pub use model::unit::{Bank, End, Operation, Run};
 use std::fmt::Debug;
 use tigbayon::{Refusal, TbBank, TbCycles, TbRegister, TbRun};
 
-/// Performs one operation all three ways, panics unless they agree in the
-/// answer, in every register and in both bytes, hands the answer back and leaves the
-/// bank so.
+/// Performs one operation all three ways, panics unless they agree in the answer and
+/// in every register and byte of the bank, hands the answer back and leaves the bank so.
 pub fn operate(bank: &mut Bank, operation: Operation) -> Answer<u32> {
     let [kind, r1, r2, r3] = operation;
     let call = UnitCall {
@@ -28,6 +27,39 @@ pub fn run(bank: &mut Bank, list: &[u8], budget: u32) -> Answer<Run> {
         model: |bank: &mut Bank| model::unit::run(bank, list, budget),
     };
     call.check(|| format!("run {list:?} {budget}"), bank)
+}
+
+/// Continues the run that waits, checked likewise.
+pub fn continue_run(bank: &mut Bank, list: &[u8], budget: u32) -> Answer<Run> {
+    let call = UnitCall {
+        raw: |bank: &mut TbBank| {
+            ran(only_read(list, |list| {
+                tigbayon::tb_continue(bank, list, budget)
+            }))
+        },
+        wrapped: |bank: &mut tigbayon::Bank| bank.continue_run(list, budget).map(wrapped_run),
+        model: |bank: &mut Bank| model::unit::continue_run(bank, list, budget),
+    };
+    call.check(|| format!("continue {list:?} {budget}"), bank)
+}
+
+/// Drops the run that waits, checked likewise.
+pub fn drop_run(bank: &mut Bank) {
+    let call = UnitCall {
+        raw: |bank: &mut TbBank| {
+            tigbayon::tb_drop(bank);
+            carried_out(())
+        },
+        wrapped: |bank: &mut tigbayon::Bank| {
+            bank.drop_run();
+            Ok(())
+        },
+        model: |bank: &mut Bank| {
+            model::unit::drop_run(bank);
+            carried_out(())
+        },
+    };
+    call.check(|| "drop".into(), bank);
 }
 
 /// Reads a register, checked likewise; the bank must stay as it is.
@@ -132,8 +164,20 @@ where
 /// status bit 2 and changes nothing else; or, if the number is 0, that it is carried
 /// out.
 pub fn assert_run_number(number: u8, bank: &Bank, list: &[u8], budget: u32) {
+    assert_number_of(run, number, bank, list, budget);
+}
+
+/// The same of a continued run.
+pub fn assert_continued_number(number: u8, bank: &Bank, list: &[u8], budget: u32) {
+    assert_number_of(continue_run, number, bank, list, budget);
+}
+
+/// [`run`] or [`continue_run`].
+pub type RunCall = fn(&mut Bank, &[u8], u32) -> Answer<Run>;
+
+fn assert_number_of(call: RunCall, number: u8, bank: &Bank, list: &[u8], budget: u32) {
     let mut after = *bank;
-    let answer = run(&mut after, list, budget);
+    let answer = call(&mut after, list, budget);
     assert_eq!(answer.refusal, number);
     if number != 0 {
         assert_eq!(answer, Answer::refused(number));
@@ -165,6 +209,9 @@ pub fn lent(bank: &Bank) -> tigbayon::Bank {
         ib,
         status,
         enable,
+        waiting,
+        left,
+        list,
     } = *bank;
     tigbayon::Bank {
         general,
@@ -172,6 +219,9 @@ pub fn lent(bank: &Bank) -> tigbayon::Bank {
         ib,
         status,
         enable,
+        waiting,
+        left,
+        list,
     }
 }
 
@@ -191,34 +241,56 @@ impl<L, W, M> UnitCall<L, W, M> {
         W: FnOnce(&mut tigbayon::Bank) -> Result<R, Refusal>,
         M: FnOnce(&mut Bank) -> Answer<R>,
     {
-        let input = || format!("{} {bank:x?}", name());
-        let (library, after) = guarded(bank, self.raw);
-        let (wrapped, wrapped_after) = guarded(bank, self.wrapped);
-        let mut expected = *bank;
-        let model = (self.model)(&mut expected);
+        let before = lent(bank);
+        let model = (self.model)(bank);
+        let input = || format!("{} {before:x?}", name());
+        let (library, by_library) = guarded(&before, bank, self.raw);
+        let (wrapped, by_wrapper) = guarded(&before, bank, self.wrapped);
         assert_agree(input, library, model, wrapped);
-        for (by, after) in [("library", after), ("wrapper", wrapped_after)] {
-            assert!(
-                after == lent(&expected),
-                "{}: {by} {after:x?}, model {expected:x?}",
-                input()
-            );
+        for (by, other) in [("library", by_library), ("wrapper", by_wrapper)] {
+            if let Some(other) = other {
+                panic!("{}: {by} {other:x?}, model {bank:x?}", input());
+            }
         }
-        *bank = expected;
         model
     }
 }
 
-/// What a call answers on a copy of the bank, and the copy then; a word on
-/// either side, which is not lent, must stay.
-fn guarded<A>(bank: &Bank, call: impl FnOnce(&mut TbBank) -> A) -> (A, TbBank) {
+/// What a call answers on a copy of the bank, and the copy then if it is not as expected;
+/// a word on either side, which is not lent, must stay.
+fn guarded<A>(
+    before: &TbBank,
+    expected: &Bank,
+    call: impl FnOnce(&mut TbBank) -> A,
+) -> (A, Option<Box<TbBank>>) {
     const NOT_LENT: u64 = 0x5AA5_0FF0_3CC3_9669;
     #[repr(C)]
     struct Guarded(u64, TbBank, u64);
-    let mut copy = Guarded(NOT_LENT, lent(bank), NOT_LENT);
+    let mut copy = Guarded(NOT_LENT, *before, NOT_LENT);
     let answer = call(&mut copy.1);
     assert_eq!([copy.0, copy.2], [NOT_LENT; 2]);
-    (answer, copy.1)
+    let other = !is_as(&copy.1, expected);
+    (answer, other.then(|| Box::new(copy.1)))
+}
+
+/// Whether the library's bank is as the model's, in every register and byte.
+fn is_as(after: &TbBank, expected: &Bank) -> bool {
+    let TbBank {
+        general,
+        b,
+        ib,
+        status,
+        enable,
+        waiting,
+        left,
+        list,
+    } = after;
+    let bytes = [*status, *enable, *waiting];
+    *general == expected.general
+        && [*b, *ib] == [expected.b, expected.ib]
+        && bytes == [expected.status, expected.enable, expected.waiting]
+        && *left == expected.left
+        && *list == expected.list
 }
 
 /// The answer of a call that refuses nothing.

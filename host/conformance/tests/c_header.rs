@@ -10,6 +10,7 @@ use tigbayon::{TbGathered, TbMasks, TbPacked, TbPlanes, TbPrepared, TbRegister, 
 
 const CRATE: &str = env!("CARGO_MANIFEST_DIR");
 const README: &str = include_str!("../../../README.md");
+const HEADER: &str = include_str!("../../../include/tigbayon.h");
 
 /// What it prints of routing by groups, and of a word grouped so.
 const GROUPS: &str = "\
@@ -119,6 +120,31 @@ const UNIT: &str = "\
     write 8\n\
     list: 8 0 0 3 3 1 2 3\n";
 
+/// What it prints of a run that waits, and of what the bank remembers, whose sizes come first.
+const WAITING: &str = "\
+    sizes 1 4 4096\n\
+    waits 0 0: 0 0 0 0 0 0 0 0\n\
+    continue 14 0 0 0: 0 4\n\
+    run 0 2 1 2: 0 6\n\
+    waits 1 4: 3 1 2 3 0 0 0 0\n\
+    operate 14 0: 0 6\n\
+    operate 8 0: 0 6\n\
+    run 14 0 0 0: 0 6\n\
+    continue 14 0 0 0: 0 6\n\
+    continue 4 0 0 0: 0 6\n\
+    write 0\n\
+    continue 0 2 0 0: 0 6\n\
+    waits 1 4: 3 1 2 3 0 0 0 0\n\
+    continue 0 1 1 1: 1f 7\n\
+    waits 0 4: 3 1 2 3 0 0 0 0\n\
+    continue 14 0 0 0: 1f 7\n\
+    run 0 2 0 0: 1f 7\n\
+    waits 1 8: 8 0 0 3 3 1 2 3\n\
+    waits 0 8: 8 0 0 3 3 1 2 3\n\
+    continue 14 0 0 0: 1f 7\n\
+    continue 0 1 0 0: 1f 7\n\
+    waits 0 0: 8 0 0 3 3 1 2 3\n";
+
 /// What it prints of both bytes as they are held, of the status and of the line.
 const POLLING: &str = "\
     statuses 1 2 4\n\
@@ -193,7 +219,7 @@ fn layouts() -> String {
         + &layout!(TbMasks, refusal, masks)
         + &layout!(TbPacked, refusal, count, bits)
         + &layout!(TbPlanes, words)
-        + &layout!(TbBank, general, b, ib, status, enable)
+        + &layout!(TbBank, general, b, ib, status, enable, waiting, left, list)
         + &layout!(TbCycles, refusal, cycles)
         + &layout!(TbRun, refusal, end, ran, cycles)
         + &layout!(TbRegister, refusal, value)
@@ -231,7 +257,7 @@ fn expected() -> String {
         permutation 0 4 2 3 1 5 6 7\n";
     let numbers = format!("numbers 0{}\n", numbers.concat());
     let calls = [
-        GROUPS, PREPARED, PACKING, PLANES, TILES, SUBWORDS, PIXELS, UNIT, POLLING,
+        GROUPS, PREPARED, PACKING, PLANES, TILES, SUBWORDS, PIXELS, UNIT, WAITING, POLLING,
     ];
     layouts() + &numbers + answers + &calls.concat()
 }
@@ -255,10 +281,21 @@ fn in_cpp() {
     assert_eq!(interface(&CPP), expected());
 }
 
-/// What keeps a bank elsewhere goes by this.
+/// What keeps a bank elsewhere goes by this, and by the size that the header says.
 #[test]
-fn a_bank_has_both_bytes_after_its_registers() {
-    assert!(layouts().contains("TbBank 184 8: 0 128 152 176 177\n"));
+fn a_bank_has_4280_bytes() {
+    assert!(layouts().contains("TbBank 4280 8: 0 128 152 176 177 178 180 184\n"));
+    assert!(HEADER.contains("Any bytes are accepted in a bank. It has 4,280 of them."));
+}
+
+/// The header and the wrapper say what refusal 14 is by the paper's words.
+#[test]
+fn refusal_14_is_the_papers() {
+    let paper = "another run waits, or none does, or the list is not the remainder";
+    let words = |text: &str| text.split_whitespace().collect::<Vec<_>>().join(" ");
+    let expected = format!("TB_REFUSAL_WAITING = 14 /* {paper} */");
+    assert!(words(HEADER).contains(&expected));
+    assert_eq!(Refusal::Waiting.to_string(), format!("refusal 14: {paper}"));
 }
 
 /// The repository's README shows how to link; its program prints what it says.

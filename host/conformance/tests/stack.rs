@@ -1,13 +1,13 @@
 //! The stack that each exported call uses, at its deepest over many inputs.
 //! With `--nocapture` the bytes are printed.
 
-use conformance::arbitrary::{byte, controls, cut, list, operation, permutation, plane};
-use conformance::arbitrary::{register, size, widths, word};
+use conformance::arbitrary::{any_bank, budget, byte, continued, list, operation, register};
+use conformance::arbitrary::{controls, cut, permutation, plane, size, widths, word};
 use conformance::packing::{clean_end, LONGEST};
 use conformance::permutations::{one_loop, FIXED};
 use conformance::pixels::{Plane, LONGEST_SHAPES};
 use conformance::planes::Words;
-use conformance::programs::{bank, program};
+use conformance::programs::{bank, program, waiting_bank};
 use conformance::samples::{any_eight, any_swaps, random_permutation, random_words, Random};
 use conformance::stack::bytes_used;
 use conformance::unit::lent;
@@ -16,9 +16,9 @@ use model::routing::valid_stage;
 use std::hint::black_box;
 use std::thread;
 use tigbayon::{
-    tb_acknowledge, tb_butterfly, tb_butterfly_prepared, tb_check, tb_decode, tb_despeckle,
-    tb_enable, tb_exchange, tb_excheck, tb_from_planes, tb_gather, tb_group, tb_interrupt,
-    tb_inverse, tb_inverse_prepared, tb_mix_left, tb_mix_right, tb_operate, tb_pack,
+    tb_acknowledge, tb_butterfly, tb_butterfly_prepared, tb_check, tb_continue, tb_decode,
+    tb_despeckle, tb_drop, tb_enable, tb_exchange, tb_excheck, tb_from_planes, tb_gather, tb_group,
+    tb_interrupt, tb_inverse, tb_inverse_prepared, tb_mix_left, tb_mix_right, tb_operate, tb_pack,
     tb_prepare_butterfly, tb_prepare_inverse, tb_read, tb_route, tb_route_butterfly,
     tb_route_groups, tb_route_inverse, tb_run, tb_scatter, tb_status, tb_tile_mirror_columns,
     tb_tile_mirror_rows, tb_tile_transpose, tb_tile_turn_left, tb_tile_turn_right, tb_to_planes,
@@ -27,6 +27,9 @@ use tigbayon::{
 
 /// No call may use as many bytes.
 const LIMIT: usize = 16 * 1_024;
+
+/// Nor may a run, continued or not: the operations left are not copied to the stack.
+const LIMIT_OF_RUNS: usize = 2 * 1_024;
 
 /// How often each call is measured, on inputs of every sort each time.
 const ROUNDS: u32 = 300;
@@ -51,7 +54,7 @@ impl Gauge {
 /// Measures a call once on each sort of input.
 type Measure = fn(&mut Gauge);
 
-const CALLS: [(&str, Measure); 38] = [
+const CALLS: [(&str, Measure); 40] = [
     ("(none)", |gauge| gauge.measure(|| ())),
     ("tb_gather", |gauge| masked(gauge, tb_gather)),
     ("tb_scatter", |gauge| masked(gauge, tb_scatter)),
@@ -117,15 +120,14 @@ const CALLS: [(&str, Measure); 38] = [
     }),
     ("tb_operate", |gauge| {
         let [kind, r1, r2, r3] = operation(&mut gauge.random);
-        let mut bank = lent(&bank(&mut gauge.random));
+        let mut bank = lent(&any_bank(&mut gauge.random));
         gauge.measure(|| tb_operate(&mut bank, kind, r1, r2, r3));
     }),
-    ("tb_run", |gauge| {
-        let longest = program(&mut gauge.random, 1_024);
-        for list in [longest, list(&mut gauge.random)] {
-            let mut bank = lent(&bank(&mut gauge.random));
-            gauge.measure(|| tb_run(&mut bank, &list, u32::MAX));
-        }
+    ("tb_run", ran),
+    ("tb_continue", ran_on),
+    ("tb_drop", |gauge| {
+        let mut bank = lent(&any_bank(&mut gauge.random));
+        gauge.measure(|| tb_drop(&mut bank));
     }),
     ("tb_read", |gauge| {
         let bank = lent(&bank(&mut gauge.random));
@@ -225,6 +227,29 @@ fn paired(gauge: &mut Gauge, call: extern "C" fn(u32, u64, u64) -> TbCarried) {
     gauge.measure(|| call(size, first, second));
 }
 
+/// The longest list and any, to their end and with less.
+fn ran(gauge: &mut Gauge) {
+    let longest = program(&mut gauge.random, 1_024);
+    for list in [longest, list(&mut gauge.random)] {
+        for budget in [0, budget(&mut gauge.random, &list), u32::MAX] {
+            let mut bank = lent(&bank(&mut gauge.random));
+            gauge.measure(|| tb_run(&mut bank, &list, budget));
+        }
+    }
+}
+
+/// Likewise.
+fn ran_on(gauge: &mut Gauge) {
+    let longest = program(&mut gauge.random, 1_024);
+    let waiting = waiting_bank(&mut gauge.random, &longest);
+    for (bank, list) in [(waiting, longest), continued(&mut gauge.random)] {
+        for budget in [0, budget(&mut gauge.random, &list), u32::MAX] {
+            let mut bank = lent(&bank);
+            gauge.measure(|| tb_continue(&mut bank, &list, budget));
+        }
+    }
+}
+
 /// Measured on a thread, so that the stack is a fresh one.
 fn deepest(measure: Measure) -> usize {
     let measured = move || {
@@ -244,6 +269,14 @@ fn each_call_uses_less_than_16_kib() {
         let bytes = deepest(measure);
         println!("{name:<22} {bytes:>6}");
         assert!(bytes < LIMIT, "{name} uses {bytes} bytes of stack");
+    }
+}
+
+#[test]
+fn runs_use_less_than_2_kib() {
+    for (name, measure) in [("tb_run", ran as Measure), ("tb_continue", ran_on)] {
+        let bytes = deepest(measure);
+        assert!(bytes < LIMIT_OF_RUNS, "{name} uses {bytes} bytes of stack");
     }
 }
 

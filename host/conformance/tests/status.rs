@@ -2,23 +2,27 @@
 //! wrapper and model agree on all their values, and what follows from the request holds.
 
 use conformance::arbitrary::{budget, byte, list, operation, register};
-use conformance::programs::{bank, cycles, program, ENDS, FORMS, LONGEST};
+use conformance::programs::{bank, cycles, program, waiting_bank, ENDS, FORMS, LONGEST};
 use conformance::samples::Random;
 use conformance::unit::{acknowledge, enable, interrupt, operate, read, run, status, write};
-use conformance::unit::{assert_run_number, status_bit, with_status, Bank, End};
+use conformance::unit::{assert_run_number, continue_run, drop_run};
+use conformance::unit::{status_bit, with_status, Bank, End};
 
 /// Every two bytes.
 fn byte_pairs() -> impl Iterator<Item = (u8, u8)> {
     (0..=255).flat_map(|one| (0..=255).map(move |other| (one, other)))
 }
 
-/// Banks of every two bytes, their registers random.
+/// Banks of every two bytes, their registers random for each status.
 fn banks() -> impl Iterator<Item = Bank> {
     let mut random = Random::default();
-    byte_pairs().map(move |(status, enable)| Bank {
-        status,
-        enable,
-        ..bank(&mut random)
+    (0..=255).flat_map(move |status| {
+        let any = bank(&mut random);
+        (0..=255).map(move |enable| Bank {
+            status,
+            enable,
+            ..any
+        })
     })
 }
 
@@ -108,6 +112,23 @@ fn a_run_sets_the_bit_of_its_end_on_every_status() {
             bank.status = held;
             let enabled = bank.enable;
             assert_eq!(run(&mut bank, &list, budget).result.end, end);
+            let expected = (held | status_bit(end), enabled);
+            assert_eq!((bank.status, bank.enable), expected);
+        }
+    }
+}
+
+/// Request 10: "the status bits of Req 09 count for continued runs."
+#[test]
+fn a_continued_run_sets_the_bit_of_its_end_on_every_status() {
+    let mut random = Random::default();
+    for held in 0..=255 {
+        for (end, list, budget) in runs(&mut random) {
+            let remainder = &list[..list.len().min(LONGEST)];
+            let mut bank = waiting_bank(&mut random, remainder);
+            bank.status = held;
+            let enabled = bank.enable;
+            assert_eq!(continue_run(&mut bank, &list, budget).result.end, end);
             let expected = (held | status_bit(end), enabled);
             assert_eq!((bank.status, bank.enable), expected);
         }
@@ -268,7 +289,7 @@ type Event = (u8, bool);
 
 /// Makes some call on the bank, and answers what it must do to the status.
 fn any_call(random: &mut Random, bank: &mut Bank) -> Event {
-    match random.below(8) {
+    match random.below(11) {
         0 => {
             operate(bank, operation(random));
         }
@@ -294,6 +315,13 @@ fn any_call(random: &mut Random, bank: &mut Bank) -> Event {
             enable(bank, byte);
             assert_eq!(bank.enable, byte);
         }
+        7 | 8 => {
+            let list = bank.list[..bank.left as usize].to_vec();
+            let budget = budget(random, &list);
+            let end = continue_run(bank, &list, budget).result.end;
+            return (status_bit(end), true);
+        }
+        9 => drop_run(bank),
         _ => {
             let in_both = status(bank) & bank.enable;
             assert_eq!(interrupt(bank), in_both != 0);
@@ -333,7 +361,7 @@ fn the_status_tells_the_ends_since_the_last_acknowledgement() {
 fn a_status_byte_below_8_stays_below_8() {
     let mut random = Random::default();
     for turn in 0..100 {
-        let mut bank = bank(&mut random);
+        let mut bank = waiting_bank(&mut random, &[]);
         bank.status = turn % 8;
         for _ in 0..60 {
             any_call(&mut random, &mut bank);

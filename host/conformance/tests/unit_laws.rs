@@ -1,6 +1,6 @@
 //! What the demands, paper 01 and request 01 of paper 02 say of the register unit,
 //! asked of the library; request 09, which sets a status bit by each run, in
-//! `status.rs`.
+//! `status.rs`, request 10, by which a spent run waits, in `waiting.rs`.
 
 use conformance::programs::{bank, cycles, program, FORMS};
 use conformance::samples::{for_each, for_each_permutation, Random};
@@ -16,14 +16,18 @@ fn random_bank(random: &mut Random) -> Bank {
     lent(&bank(random))
 }
 
-/// The bank with the status bit set of a run that ended so.
-fn after_a_run(bank: Bank, end: End) -> Bank {
-    let bit = match end {
-        End::Done => 0b001,
-        End::Spent => 0b010,
-    };
-    let status = bank.status | bit;
-    Bank { status, ..bank }
+/// The bank after a run that ended so, with these operations left.
+fn after_a_run(bank: Bank, end: End, left: &[u8]) -> Bank {
+    let mut after = bank;
+    match end {
+        End::Done => after.status |= 0b001,
+        End::Spent => {
+            after.status |= 0b010;
+            (after.waiting, after.left) = (1, left.len() as u32);
+            after.list[..left.len()].copy_from_slice(left);
+        }
+    }
+    after
 }
 
 /// Performs the operations one after the other and answers the sum of cycles.
@@ -63,7 +67,7 @@ fn a_run_with_an_ample_budget_is_its_operations_one_after_the_other() {
                 cycles
             }
         );
-        assert_eq!(ran, after_a_run(operated, end));
+        assert_eq!(ran, after_a_run(operated, end, &[]));
         Ok(())
     });
 }
@@ -77,27 +81,12 @@ fn a_run_is_its_first_operations_and_is_spent_if_the_next_does_not_fit() {
         let answer = ran.run(list, budget)?;
         let (first, left) = list.split_at(4 * answer.ran as usize);
         assert_eq!(operate_each(&mut operated, first)?, answer.cycles);
-        assert_eq!(ran, after_a_run(operated, answer.end));
+        assert_eq!(ran, after_a_run(operated, answer.end, left));
         assert!(answer.cycles <= budget);
         match answer.end {
             End::Done => assert!(left.is_empty()),
             End::Spent => assert!(cycles(&left[..4]) > budget - answer.cycles),
         }
-        Ok(())
-    });
-}
-
-#[test]
-fn a_spent_run_goes_on_with_what_is_left() {
-    holds(100, |random, before, list| {
-        let (mut whole, mut parts) = (before, before);
-        let expected = whole.run(list, u32::MAX)?;
-        let first = parts.run(list, random.below(expected.cycles + 1))?;
-        let left = &list[4 * first.ran as usize..];
-        let second = parts.run(left, expected.cycles - first.cycles)?;
-        assert_eq!(second.end, End::Done);
-        assert_eq!(first.ran + second.ran, expected.ran);
-        assert_eq!(parts, after_a_run(whole, first.end));
         Ok(())
     });
 }
@@ -113,6 +102,7 @@ fn each_form_uses_the_cycles_of_the_table() {
             bank.run(&operation, form.cycles - 1).map(|run| run.ran),
             Ok(0)
         );
+        bank.drop_run();
     }
 }
 
@@ -168,7 +158,7 @@ fn kinds_6_7_and_10_write_the_word_alone() -> Outcome {
             expected.write(r1, answer.word)?;
             operated.operate(kind, r1, r2, r3)?;
             let end = ran.run(&[kind, r1, r2, r3], 3)?.end;
-            assert_eq!((operated, ran), (expected, after_a_run(expected, end)));
+            assert_eq!((operated, ran), (expected, after_a_run(expected, end, &[])));
         }
     }
     Ok(())

@@ -1,5 +1,5 @@
-//! Refused calls ("Calls turned back" of paper 01, requests 02, 05 and 06 of paper
-//! 02): the numbers, and the lowest of them.
+//! Refused calls ("Calls turned back" of paper 01, requests 02, 05, 06 and 10 of
+//! paper 02): the numbers, and the lowest of them.
 
 /// The answer's number where the call is carried out.
 pub const NONE: u8 = 0;
@@ -31,6 +31,8 @@ pub const SPARE: u8 = 11;
 pub const SUBWORD: u8 = 12;
 /// Paper 02: "h or v is zero, or v×h differs from the first strip's length"
 pub const PLANE: u8 = 13;
+/// Paper 02: "another run waits, or none does, or the list is not the remainder"
+pub const WAITING: u8 = 14;
 
 /// The answer of a call.
 #[derive(Clone, Copy, Debug, PartialEq, Eq)]

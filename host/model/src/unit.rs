@@ -1,11 +1,11 @@
-//! The register unit ("The register unit" of paper 01, requests 01 and 09 of paper
+//! The register unit ("The register unit" of paper 01, requests 01, 09 and 10 of paper
 //! 02).
 
 use crate::bits::{bits_of, marked, word_of};
 use crate::decoder::decode;
 use crate::gather::{gather, group, scatter};
 use crate::network::{butterfly, inverse, Controls};
-use crate::refusal::{Answer, KIND, LENGTH, REGISTER};
+use crate::refusal::{Answer, KIND, LENGTH, REGISTER, WAITING};
 use std::array;
 
 /// "Strips and the register unit use width 64."
@@ -16,8 +16,10 @@ const LONGEST: usize = 4_096;
 
 /// "There are sixteen general registers 0 to 15 and six settings registers b1
 /// to b3, ib1 to ib3, each of 64 bits, all zero when fresh." Paper 02: "The register
-/// bank gains a status byte and an enable byte, both zero when fresh."
-#[derive(Clone, Copy, Debug, Default, PartialEq, Eq)]
+/// bank gains a status byte and an enable byte, both zero when fresh." "The bank
+/// remembers that it waits and a copy of the operations left"; "A fresh bank does not
+/// wait."
+#[derive(Clone, Copy, Debug, PartialEq, Eq)]
 pub struct Bank {
     /// The general registers.
     pub general: [u64; 16],
@@ -29,6 +31,27 @@ pub struct Bank {
     pub status: u8,
     /// The enable byte.
     pub enable: u8,
+    /// Whether it waits: 0 if it does not.
+    pub waiting: u8,
+    /// How many bytes the operations left have.
+    pub left: u32,
+    /// Their copy, and any bytes after it.
+    pub list: [u8; 4_096],
+}
+
+impl Default for Bank {
+    fn default() -> Self {
+        Bank {
+            general: [0; 16],
+            b: [0; 3],
+            ib: [0; 3],
+            status: 0,
+            enable: 0,
+            waiting: 0,
+            left: 0,
+            list: [0; LONGEST],
+        }
+    }
 }
 
 /// "An operation is four bytes: kind, r1, r2, r3."
@@ -58,7 +81,8 @@ pub struct Run {
 }
 
 /// "One operation alone answers its cycles." Paper 02, of status and enable:
-/// "single operations, refused or not, touch neither byte."
+/// "single operations, refused or not, touch neither byte." And of a run that waits:
+/// "Single operations and a new run are turned back until it is done or dropped".
 ///
 /// ```
 /// use model::unit::{operate, Bank};
@@ -70,8 +94,9 @@ pub struct Run {
 /// assert_eq!(bank.general[0], 1 << 63);
 /// ```
 pub fn operate(bank: &mut Bank, operation: Operation) -> Answer<u32> {
-    Answer::of(&conditions(&[operation]), || {
-        *bank = performed(bank, operation);
+    let [kind, register] = conditions(&[operation]);
+    Answer::of(&[kind, register, (WAITING, waits(bank))], || {
+        perform(bank, operation);
         cycles(operation)
     })
 }
@@ -96,26 +121,86 @@ pub fn operate(bank: &mut Bank, operation: Operation) -> Answer<u32> {
 /// }
 /// ```
 pub fn run(bank: &mut Bank, list: &[u8], budget: u32) -> Answer<Run> {
+    let turned_back = waits(bank);
+    carry_out(bank, list, budget, turned_back)
+}
+
+/// "After spent, a run may now be continued with a fresh budget." "to continue, the
+/// host lends those again": "A continued list must equal the remembered remainder byte
+/// for byte."
+///
+/// ```
+/// use model::unit::{continue_run, run, status, waits, write, Bank, End, Run};
+///
+/// // Row 10b of paper 01, and a load while it waits.
+/// let list = [8, 0, 0, 3, 3, 1, 2, 3];
+/// let mut bank = Bank::default();
+/// (bank.general[2], bank.general[3]) = (0xB6, 0xAD);
+/// run(&mut bank, &list, 2);
+/// assert!(waits(&bank));
+/// write(&mut bank, 2, 0xFF);
+///
+/// assert_eq!(continue_run(&mut bank, &list, 1).refusal, 14);
+/// let (end, ran, cycles) = (End::Done, 1, 1);
+/// assert_eq!(continue_run(&mut bank, &list[4..], 1).result, Run { end, ran, cycles });
+/// assert_eq!((bank.general[1], status(&bank)), (0x1F, 0b111));
+/// assert!(!waits(&bank));
+/// ```
+pub fn continue_run(bank: &mut Bank, list: &[u8], budget: u32) -> Answer<Run> {
+    let turned_back = !waits(bank) || remainder(bank) != Some(list);
+    carry_out(bank, list, budget, turned_back)
+}
+
+/// "dropping is always allowed and changes only that the bank no longer waits"
+///
+/// ```
+/// use model::unit::{drop_run, Bank};
+///
+/// let mut bank = Bank { waiting: 7, left: 4, ..Bank::default() };
+/// drop_run(&mut bank);
+/// assert_eq!(bank, Bank { left: 4, ..Bank::default() });
+/// ```
+pub fn drop_run(bank: &mut Bank) {
+    bank.waiting = 0;
+}
+
+/// Whether a run waits.
+pub fn waits(bank: &Bank) -> bool {
+    bank.waiting != 0
+}
+
+/// "the remembered remainder", if the bank has room for as much.
+fn remainder(bank: &Bank) -> Option<&[u8]> {
+    bank.list.get(..bank.left as usize)
+}
+
+/// A run, or a continued one: "the status bits of Req 09 count for continued runs."
+fn carry_out(bank: &mut Bank, list: &[u8], budget: u32, turned_back: bool) -> Answer<Run> {
     let operations = list.chunks_exact(4);
     let operations: Vec<Operation> = operations.map(|o| [o[0], o[1], o[2], o[3]]).collect();
     let [kind, register] = conditions(&operations);
     let length = list.len() % 4 != 0 || list.len() > LONGEST;
-    let answer = Answer::of(&[(LENGTH, length), kind, register], || {
-        let (mut ran, mut used) = (0, 0);
-        for operation in operations {
-            if cycles(operation) > budget - used {
-                let (end, cycles) = (End::Spent, used);
-                return Run { end, ran, cycles };
-            }
-            *bank = performed(bank, operation);
-            ran += 1;
-            used += cycles(operation);
-        }
-        let (end, cycles) = (End::Done, used);
-        Run { end, ran, cycles }
-    });
+    let conditions = [(LENGTH, length), kind, register, (WAITING, turned_back)];
+    let answer = Answer::of(&conditions, || perform_each(bank, &operations, budget));
     set_status(bank, answer.result.end);
+    remember(bank, list, answer.result);
     answer
+}
+
+/// Goes on while the next operation fits.
+fn perform_each(bank: &mut Bank, operations: &[Operation], budget: u32) -> Run {
+    let (mut ran, mut used) = (0, 0);
+    for &operation in operations {
+        if cycles(operation) > budget - used {
+            let (end, cycles) = (End::Spent, used);
+            return Run { end, ran, cycles };
+        }
+        perform(bank, operation);
+        ran += 1;
+        used += cycles(operation);
+    }
+    let (end, cycles) = (End::Done, used);
+    Run { end, ran, cycles }
 }
 
 /// "A run that ends done sets status bit 0, one that ends spent sets bit 1, and a
@@ -130,6 +215,22 @@ fn set_status(bank: &mut Bank, end: End) {
     bank.status = byte_of(&bits);
 }
 
+/// What the bank remembers after a run of this list.
+fn remember(bank: &mut Bank, list: &[u8], run: Run) {
+    match run.end {
+        End::Refused => {}
+        End::Done => bank.waiting = 0,
+        End::Spent => {
+            let operations_left = &list[4 * run.ran as usize..];
+            bank.waiting = 1;
+            bank.left = operations_left.len() as u32;
+            for (place, &byte) in operations_left.iter().enumerate() {
+                bank.list[place] = byte;
+            }
+        }
+    }
+}
+
 /// "The host may also read or write one general register by number; a read
 /// answers the value"
 pub fn read(bank: &Bank, number: u8) -> Answer<u64> {
@@ -137,7 +238,8 @@ pub fn read(bank: &Bank, number: u8) -> Answer<u64> {
     Answer::of(&conditions, || bank.general[usize::from(number)])
 }
 
-/// "a write nothing more than that it was carried out"
+/// "a write nothing more than that it was carried out". Paper 02: "While it waits, the
+/// host may write a general register."
 pub fn write(bank: &mut Bank, number: u8, value: u64) -> Answer<()> {
     Answer::of(&[(REGISTER, number > 15)], || {
         bank.general[usize::from(number)] = value;
@@ -253,28 +355,27 @@ fn cycles([kind, ..]: Operation) -> u32 {
 /// What the table says that an operation does. "Operands are read before the
 /// result is written." Paper 02, of the count of marked lines: "Kinds 6, 7 and 10
 /// of the register unit do not store it."
-fn performed(bank: &Bank, [kind, r1, r2, r3]: Operation) -> Bank {
-    let read = |number: u8| bank.general[usize::from(number)];
-    let through_b = |word| butterfly(WIDTH, &stages_in(bank.b), word).result;
-    let through_ib = |word| inverse(WIDTH, &stages_in(bank.ib), word).result;
-    let mut after = *bank;
-    let mut write = |word| after.general[usize::from(r1)] = word;
+fn perform(bank: &mut Bank, [kind, r1, r2, r3]: Operation) {
+    let Bank { general, b, ib, .. } = *bank;
+    let read = |number: u8| general[usize::from(number)];
+    let through_b = |word| butterfly(WIDTH, &stages_in(b), word).result;
+    let through_ib = |word| inverse(WIDTH, &stages_in(ib), word).result;
+    let mut write = |word| bank.general[usize::from(r1)] = word;
     match (kind, r1) {
         (1, _) => write(through_b(read(r2))),
         (2, _) => write(through_ib(read(r2))),
         (3, _) => write(through_ib(read(r2) & read(r3))),
         (4, _) => write(through_b(read(r2)) & read(r3)),
-        (5, 1) => (after.b[0], after.b[1]) = (read(r2), read(r3)),
-        (5, 2) => after.b[2] = read(r2),
-        (5, 3) => (after.ib[0], after.ib[1]) = (read(r2), read(r3)),
-        (5, _) => after.ib[2] = read(r2),
+        (5, 1) => (bank.b[0], bank.b[1]) = (read(r2), read(r3)),
+        (5, 2) => bank.b[2] = read(r2),
+        (5, 3) => (bank.ib[0], bank.ib[1]) = (read(r2), read(r3)),
+        (5, _) => bank.ib[2] = read(r2),
         (6, _) => write(gather(WIDTH, read(r3), read(r2)).result.word),
         (7, _) => write(scatter(WIDTH, read(r3), read(r2)).result.word),
-        (8, _) => after.ib = registers_of(decode(WIDTH, read(r3)).result.inverse),
-        (9, _) => after.b = registers_of(decode(WIDTH, read(r3)).result.butterfly),
+        (8, _) => bank.ib = registers_of(decode(WIDTH, read(r3)).result.inverse),
+        (9, _) => bank.b = registers_of(decode(WIDTH, read(r3)).result.butterfly),
         _ => write(group(WIDTH, read(r3), read(r2)).result.word),
     }
-    after
 }
 
 /// "b1 holds column 1 in its low half and column 2 in its high half; b2 and b3

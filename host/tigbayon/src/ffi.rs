@@ -100,7 +100,7 @@ pub struct TbCycles {
     pub cycles: u32,
 }
 
-/// The answer of a run.
+/// The answer of a run, continued or not.
 #[repr(C)]
 #[derive(Clone, Copy, Debug, PartialEq, Eq)]
 pub struct TbRun {
@@ -256,6 +256,8 @@ unsafe extern "C" {
     pub safe fn tb_exchange(size: u32, word: u64) -> TbCarried;
     /// See [`crate::Bank::operate()`].
     pub safe fn tb_operate(bank: &mut TbBank, kind: u8, r1: u8, r2: u8, r3: u8) -> TbCycles;
+    /// See [`crate::Bank::drop_run()`].
+    pub safe fn tb_drop(bank: &mut TbBank);
     /// See [`crate::Bank::read()`].
     pub safe fn tb_read(bank: &TbBank, number: u8) -> TbRegister;
     /// See [`crate::Bank::write()`].
@@ -309,6 +311,12 @@ mod by_pointer {
             out_length: usize,
         ) -> u8;
         pub fn tb_run(
+            bank: &mut TbBank,
+            operations: *const u8,
+            length: usize,
+            budget: u32,
+        ) -> TbRun;
+        pub fn tb_continue(
             bank: &mut TbBank,
             operations: *const u8,
             length: usize,
@@ -408,4 +416,11 @@ pub fn tb_run(bank: &mut TbBank, operations: &[u8], budget: u32) -> TbRun {
     // Safe: answered for every slice, which the bank does not overlap; it is
     // only read, neither is kept.
     unsafe { by_pointer::tb_run(bank, operations.as_ptr(), operations.len(), budget) }
+}
+
+/// See [`crate::Bank::continue_run()`].
+#[allow(unsafe_code)]
+pub fn tb_continue(bank: &mut TbBank, operations: &[u8], budget: u32) -> TbRun {
+    // Safe, as in tb_run.
+    unsafe { by_pointer::tb_continue(bank, operations.as_ptr(), operations.len(), budget) }
 }

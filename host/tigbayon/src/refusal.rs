@@ -38,11 +38,13 @@ pub enum Refusal {
     /// The plane has no rows, or no words in a row, or its length is not their
     /// product.
     Plane = 13,
+    /// Another run waits, or none does, or the list is not the remainder.
+    Waiting = 14,
 }
 
 impl Refusal {
     /// Every refusal, by rising number.
-    pub const ALL: [Refusal; 13] = [
+    pub const ALL: [Refusal; 14] = [
         Refusal::Width,
         Refusal::Above,
         Refusal::Unused,
@@ -56,6 +58,7 @@ impl Refusal {
         Refusal::Spare,
         Refusal::Subword,
         Refusal::Plane,
+        Refusal::Waiting,
     ];
 
     /// The number, which is part of the interface.
@@ -84,6 +87,7 @@ impl Refusal {
             Refusal::Spare => "spare bit of the last packed word read is one",
             Refusal::Subword => "subword size not 1, 2, 4, 8, 16, 32",
             Refusal::Plane => "no rows, no words in a row, or the plane's length not their product",
+            Refusal::Waiting => "another run waits, or none does, or the list is not the remainder",
         }
     }
 

@@ -3,7 +3,8 @@
 use crate::{ffi, Refusal};
 
 /// The registers of a unit, which the host owns, with two bytes by which it polls how
-/// runs ended; fresh by default, that is all zero.
+/// runs ended, and the operations left of a run that waits; fresh by default, that is
+/// all zero.
 ///
 /// An operation is four bytes: kind, r1, r2, r3. The registers that it uses are
 /// read before its result is written.
@@ -22,10 +23,16 @@ use crate::{ffi, Refusal};
 /// A byte that has no meaning there is not looked at. Kinds 6, 7 and 10 write the
 /// word alone, no count.
 ///
-/// Only [`run`](Bank::run()) and [`acknowledge`](Bank::acknowledge()) change the status
-/// byte, only [`enable`](Bank::enable()) the enable byte.
+/// Only [`run`](Bank::run()), [`continue_run`](Bank::continue_run()) and
+/// [`acknowledge`](Bank::acknowledge()) change the status byte, only
+/// [`enable`](Bank::enable()) the enable byte.
+///
+/// A run that ends spent waits, until it is continued to its end or
+/// [dropped](Bank::drop_run()); operations and other runs are refused meanwhile. What
+/// [`write`](Bank::write()) writes meanwhile the operations still to come see, as if it
+/// stood in the list there.
 #[repr(C)]
-#[derive(Clone, Copy, Debug, Default, PartialEq, Eq, Hash)]
+#[derive(Clone, Copy, Debug, PartialEq, Eq, Hash)]
 pub struct Bank {
     /// The general registers, by their number.
     pub general: [u64; 16],
@@ -38,6 +45,29 @@ pub struct Bank {
     pub status: u8,
     /// The enable byte: the status bits for which the interrupt line is high.
     pub enable: u8,
+    /// Whether a run waits: none does if it is 0, one does if it is any other number.
+    pub waiting: u8,
+    /// How many bytes of the list are left to run while a run waits; any number is
+    /// accepted.
+    pub left: u32,
+    /// The operations left, from the next one on; [`remainder`](Bank::remainder()) has
+    /// those alone.
+    pub list: [u8; 4_096],
+}
+
+impl Default for Bank {
+    fn default() -> Self {
+        Bank {
+            general: [0; 16],
+            b: [0; 3],
+            ib: [0; 3],
+            status: 0,
+            enable: 0,
+            waiting: 0,
+            left: 0,
+            list: [0; 4_096],
+        }
+    }
 }
 
 /// How a run ended.
@@ -50,7 +80,7 @@ pub enum End {
     Spent = 2,
 }
 
-/// What a run did.
+/// What a run did, or a continued one by this call.
 #[derive(Clone, Copy, Debug, PartialEq, Eq, Hash)]
 pub struct Run {
     /// How it ended.
@@ -67,7 +97,7 @@ impl Bank {
     ///
     /// # Errors
     ///
-    /// [`Refusal::Kind`] and [`Refusal::Register`].
+    /// [`Refusal::Kind`], [`Refusal::Register`], and [`Refusal::Waiting`] if a run waits.
     ///
     /// ```
     /// use tigbayon::{Bank, Refusal};
@@ -90,11 +120,13 @@ impl Bank {
     /// refused, the run is.
     ///
     /// Sets bit 0 of the status byte if it ends done, bit 1 if it ends spent, bit 2 if
-    /// it is refused, and leaves the others. A refused run changes nothing else.
+    /// it is refused, and leaves the others. A refused run changes nothing else. One
+    /// that ends spent waits: the bank remembers the operations left.
     ///
     /// # Errors
     ///
-    /// [`Refusal::Length`], [`Refusal::Kind`] and [`Refusal::Register`].
+    /// [`Refusal::Length`], [`Refusal::Kind`], [`Refusal::Register`], and
+    /// [`Refusal::Waiting`] if a run waits already.
     ///
     /// ```
     /// use tigbayon::{Bank, End, Refusal, Run};
@@ -122,6 +154,100 @@ impl Bank {
     /// ```
     pub fn run(&mut self, operations: &[u8], budget: u32) -> Result<Run, Refusal> {
         ffi::tb_run(self, operations, budget).into()
+    }
+
+    /// Continues the run that waits, with a fresh budget, on the registers as they
+    /// stand. `operations` are the [`remainder`](Bank::remainder()), in a copy of the
+    /// host's own: of the list that was lent before, the end. What is run, answered
+    /// and left is as in [`run`](Bank::run()), so that it may be continued again. A
+    /// refused call leaves the run waiting.
+    ///
+    /// # Errors
+    ///
+    /// [`Refusal::Length`], [`Refusal::Kind`], [`Refusal::Register`], and
+    /// [`Refusal::Waiting`] if no run waits, or if these are not the remainder byte for
+    /// byte.
+    ///
+    /// ```
+    /// use tigbayon::{Bank, End, Refusal, Run};
+    ///
+    /// let mut bank = Bank::default();
+    /// bank.write(2, 0xB6)?;
+    /// bank.write(3, 0xAD)?;
+    /// let list = [8, 0, 0, 3, 3, 1, 2, 3];
+    /// assert_eq!(bank.run(&list, 2)?.end, End::Spent);
+    ///
+    /// // Register 2 is loaded meanwhile.
+    /// bank.write(2, 0xFF)?;
+    /// assert_eq!(bank.continue_run(&list, 1), Err(Refusal::Waiting));
+    /// let (end, ran, cycles) = (End::Done, 1, 1);
+    /// assert_eq!(bank.continue_run(&list[4..], 1), Ok(Run { end, ran, cycles }));
+    /// assert_eq!(bank.read(1), Ok(0x1F));
+    ///
+    /// assert_eq!(bank.continue_run(&[], 1), Err(Refusal::Waiting));
+    /// assert_eq!(bank.status(), 0b111);
+    /// # Ok::<(), tigbayon::Refusal>(())
+    /// ```
+    pub fn continue_run(&mut self, operations: &[u8], budget: u32) -> Result<Run, Refusal> {
+        ffi::tb_continue(self, operations, budget).into()
+    }
+
+    /// Gives up the run that waits, if one does: the bank no longer waits, and all else
+    /// in it stays as it was. Nothing is refused.
+    ///
+    /// ```
+    /// use tigbayon::{Bank, Refusal};
+    ///
+    /// let mut bank = Bank::default();
+    /// bank.run(&[1, 0, 1, 0], 0)?;
+    /// assert_eq!(bank.operate(1, 0, 1, 0), Err(Refusal::Waiting));
+    /// assert_eq!(bank.run(&[], 0), Err(Refusal::Waiting));
+    /// bank.drop_run();
+    /// assert_eq!(bank.operate(1, 0, 1, 0), Ok(1));
+    /// # Ok::<(), tigbayon::Refusal>(())
+    /// ```
+    pub fn drop_run(&mut self) {
+        ffi::tb_drop(self);
+    }
+
+    /// Answers whether a run waits.
+    ///
+    /// ```
+    /// use tigbayon::Bank;
+    ///
+    /// let mut bank = Bank::default();
+    /// assert!(!bank.waits());
+    /// bank.run(&[1, 0, 1, 0], 0)?;
+    /// assert!(bank.waits());
+    /// bank.drop_run();
+    /// assert!(!bank.waits());
+    /// # Ok::<(), tigbayon::Refusal>(())
+    /// ```
+    pub fn waits(&self) -> bool {
+        self.waiting != 0
+    }
+
+    /// The operations left of the run that waits: the only list by which it is
+    /// continued. There is none if no run waits, or if `left` is above 4,096, as only a
+    /// host can make it.
+    ///
+    /// ```
+    /// use tigbayon::Bank;
+    ///
+    /// let mut bank = Bank::default();
+    /// assert_eq!(bank.remainder(), None);
+    /// bank.run(&[1, 0, 1, 0, 2, 3, 4, 0], 1)?;
+    /// assert_eq!(bank.remainder(), Some(&[2, 3, 4, 0][..]));
+    ///
+    /// while let Some(rest) = bank.remainder().map(<[u8]>::to_vec) {
+    ///     bank.continue_run(&rest, 1)?;
+    /// }
+    /// assert_eq!(bank.status(), 0b011);
+    /// # Ok::<(), tigbayon::Refusal>(())
+    /// ```
+    pub fn remainder(&self) -> Option<&[u8]> {
+        let left = usize::try_from(self.left).ok()?;
+        self.waits().then(|| self.list.get(..left)).flatten()
     }
 
     /// Reads a general register.

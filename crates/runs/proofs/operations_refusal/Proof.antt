@@ -1,5 +1,5 @@
 -- `runs::operations_refusal` meets its contract. Assumes nothing.
-use mathlib.Core.Path.{_≡_, sym}
+use mathlib.Core.Path.{_≡_, refl, sym}
 use mathlib.Core.List.{[], _∷_}
 use Prim.Native.Nat.{_+_, _-_, _%_, _<_, _≤_}
 use borrow.Author.Needs.{needs}
@@ -12,10 +12,10 @@ use Rattle.runs.proofs.operations_refusal.Statement.{statement}
 use Rattle.runs.proofs.operations_refusal.Tie as tie
 
 abbrev Inv-loop : tie.InvT-loop
-Inv-loop ops registers₀ at₀ registers at = (at ≤ length ops) × (at % 4 ≡ 0) × Sofar (operationsOf ops) registers (operationsOf (drop at ops))
+Inv-loop other ops registers₀ at₀ registers at = (at ≤ length ops) × (at % 4 ≡ 0) × Sofar (operationsOf ops) registers (operationsOf (drop at ops))
 
 abbrev μ-loop : tie.MeasureT-loop
-μ-loop ops registers₀ at₀ registers at = length ops - at
+μ-loop other ops registers₀ at₀ registers at = length ops - at
 
 loop-holds : tie.Need-loop-holds Inv-loop μ-loop
 loop-holds c = (search needs, search needs, sofar-none)
@@ -31,7 +31,7 @@ next c =
     rw (operations-next ops (b .loop .at) h) at (b .loop .inv .2)
 
 returns : tie.Need-returns Inv-loop μ-loop
-returns c = sym (sofar-kind (next (c .before)) (c .before .is-kind .ensures) (not-true _ (c .if1 .taken)))
+returns c = sym (sofar-kind (next (c .before)) (c .before .is-kind .ensures) _ (not-true _ (c .if1 .taken)))
 
 loop-again : tie.Need-loop-again Inv-loop μ-loop
 loop-again c =
@@ -47,10 +47,13 @@ all c =
     rw (operations-end ops (l .at) (c .loop-test .left)) at (l .inv .2)
 
 returns-2 : tie.Need-returns-2 Inv-loop μ-loop
-returns-2 c = sym (sofar-all (all (c .before)) (c .if2 .taken))
+returns-2 c = sym (sofar-all (all (c .before)) (c .if2 .taken) refl)
 
 returns-3 : tie.Need-returns-3 Inv-loop μ-loop
-returns-3 c = sym (sofar-all (all (c .before)) (c .if2 .left))
+returns-3 c = sym (sofar-all (all (c .before .before)) (c .before .if2 .left) (c .if3 .taken))
+
+returns-4 : tie.Need-returns-4 Inv-loop μ-loop
+returns-4 c = sym (sofar-all (all (c .before .before)) (c .before .if2 .left) (c .if3 .left))
 
 pub operations-refusal-spec : {M : Type 1} → statement M
 operations-refusal-spec =
@@ -66,4 +69,5 @@ operations-refusal-spec =
     (λ c. search needs)
     loop-again
     returns-2
-    returns-3)
+    returns-3
+    returns-4)

@@ -32,7 +32,7 @@ kept-for-requires-2 c κs = search needs
 slice-aggregate-step : tie.Need-slice-aggregate-step
 slice-aggregate-step c = search needs
 
-sized : (c : tie.After-ib) → let k = c .before .before .before .before .before .args .registers in Sized (k .general) (k .b) (k .ib)
+sized : (c : tie.After-ib) → let k = c .before .before .before .before .before .before .args .registers in Sized (k .general) (k .b) (k .ib)
 sized c = (search needs, search needs, search needs)
 
 step-requires : tie.Need-step-requires
@@ -47,7 +47,7 @@ returns-2 : tie.Need-returns-2
 unfolding operateOf
 returns-2 c =
     let b = c .before .before .before .before .before .before .before .before .before .before .before .before .before in
-    let a = b .before .before .args in
+    let a = b .before .before .before .args in
     let e = carried-along (a .registers) (a .kind, a .r1, a .r2, a .r3) (c .before .step .ensures .0) in
     rw (← b .before .operation-refusal .ensures, eq-eqb _ _ (b .if1 .left), c .cycles-of .ensures) (ap (operated _) e)
 

@@ -4,7 +4,8 @@ use crate::answer::Answer;
 use crate::args::Given;
 use crate::command::{Argument, Choice, Command, Example};
 use crate::failure::Failure;
-use crate::number::{hex, Base};
+use crate::number::{hex, list, Base};
+use crate::turns::{Plan, WRITE};
 use tigbayon::{Bank, End, Refusal, Run};
 
 const OPERATIONS: &str = "OPERATIONS..";
@@ -23,13 +24,19 @@ pub const RUN: Command = Command {
     options: &[&[
         Choice::valued(
             "--budget",
-            "N",
-            "cycles, at most 4294967295, which is also the default",
+            "N,N,..",
+            "cycles, at most 4294967295, which is also the default; one N for each turn",
         ),
         Choice::valued(
             "--set",
             "R=WORD",
             "general register R, decimal, set to WORD, hexadecimal; again for more",
+        )
+        .repeated(),
+        Choice::valued(
+            "--write",
+            WRITE,
+            "the same before continuation K, decimal, from 1; again for more",
         )
         .repeated(),
         Choice::valued(
@@ -58,9 +65,16 @@ Registers are set first, each by a call of its own, then the enable byte. Prints
 ended, the status byte and the interrupt line, and every register that is not zero then.
 ",
         "\
-The status byte is 0x1 after a run that ends done, 0x2 after one that ends spent, 0x4 after
-one that is refused. The interrupt line is high exactly if the enable byte has a one at that
-bit. If the run is refused, both are printed below the refusal; if a --set is, no run is made.
+Of several budgets the first starts the run; while it ends spent, the next one continues it on
+the operations left. Every turn is printed. Before continuation K, which is turn K + 1, each
+--write K:.. is made, in the order given, and the operations left see it. If the run waits at
+the end, the operations left are printed so that they can be given again.
+",
+        "\
+A turn sets a bit of the status byte: 0x1 if it ends done, 0x2 if spent, 0x4 if it is refused.
+The interrupt line is high exactly if the enable byte has a one at a bit that is set. If the
+run is refused, both are printed below the refusal; if a --set is, no run is made; if a
+--write is, the turns before it are printed below the refusal, and what they left.
 ",
     ],
     refusals: &[Refusal::Length, Refusal::Kind, Refusal::Register],
@@ -86,7 +100,33 @@ register 2 = 0xB6
 register 3 = 0xAD
 ib1 = 0x55555551FFFFFFF5
 ib2 = 0x1F1F1F1FEEEEEEE7
+ib3 = 0x1F001F001F
+waits, 1 left to run, 4 bytes
+remainder 3,1,2,3",
+        },
+        Example {
+            call: "run 8,0,0,3,3,1,2,3 --budget 2,1 --set 2=0xB6 --set 3=0xAD --write 1:2=0xFF",
+            prints: "\
+turn 1: spent, 1 run, 2 cycles
+turn 2: done, 1 run, 1 cycles
+status 0x3 (done, spent), interrupt line low
+register 1 = 0x1F
+register 2 = 0xFF
+register 3 = 0xAD
+ib1 = 0x55555551FFFFFFF5
+ib2 = 0x1F1F1F1FEEEEEEE7
 ib3 = 0x1F001F001F",
+        },
+        Example {
+            call: "run 10 1 2 3 --budget 2,3,4 --set 2=0xB6 --set 3=0xAD",
+            prints: "\
+turn 1: spent, 0 run, 0 cycles
+turn 2: done, 1 run, 3 cycles
+status 0x3 (done, spent), interrupt line low
+register 1 = 0x7A
+register 2 = 0xB6
+register 3 = 0xAD
+budgets not used, the run was done in turn 2: 4",
         },
         Example {
             call: "run 10 1 2 3 --set 2=0xB6 --set 3=0xAD",
@@ -113,10 +153,7 @@ status 0x4 (refused), interrupt line high",
 
 fn run(given: &Given) -> Result<Answer, Failure> {
     let operations: Vec<u8> = given.argument(OPERATIONS).numbers(Base::Decimal)?;
-    let budget = match given.option("--budget") {
-        Some(text) => text.number(Base::Decimal)?,
-        None => u32::MAX,
-    };
+    let plan = Plan::read(given)?;
     let enable = match given.option("--enable") {
         Some(text) => text.number(Base::Hexadecimal)?,
         None => 0,
@@ -127,17 +164,33 @@ fn run(given: &Given) -> Result<Answer, Failure> {
         bank.write(number, value)?;
     }
     bank.enable(enable);
-    match bank.run(&operations, budget) {
-        Ok(run) => {
-            let lines = [ended(run), polled(&bank), registers(&bank)];
-            Ok(Answer::of(lines.join("\n")))
+    let mut turns = Vec::new();
+    match plan.perform(&mut bank, &operations, &mut turns) {
+        Ok(()) => {
+            let not_needed = plan.not_needed(turns.len());
+            Ok(Answer::of(outcome(&plan, &turns, &bank) + &not_needed))
         }
-        Err(refusal) => Err(Failure::Refused {
-            refusal,
-            part: None,
-            below: Some(polled(&bank)),
-        }),
+        Err(failure) if turns.is_empty() => Err(failure.above(polled(&bank))),
+        Err(failure) => {
+            let so_far = outcome(&plan, &turns, &bank);
+            Err(failure.above(so_far.trim_end().to_string()))
+        }
     }
+}
+
+/// What these turns answered, and what they left in the bank.
+fn outcome(plan: &Plan, turns: &[Run], bank: &Bank) -> String {
+    let answers = (1..).zip(turns).map(|(number, &turn)| {
+        let turn = ended(turn);
+        if plan.is_continued() {
+            format!("turn {number}: {turn}")
+        } else {
+            turn
+        }
+    });
+    let left = registers(bank) + &remainder(bank);
+    let lines = answers.chain([polled(bank), left]);
+    Vec::from_iter(lines).join("\n")
 }
 
 /// How a run ended.
@@ -175,6 +228,16 @@ fn registers(bank: &Bank) -> String {
         }
     }
     lines
+}
+
+/// If the run waits, a line for how much is left, and one for the operations.
+fn remainder(bank: &Bank) -> String {
+    let Some(bytes) = bank.remainder() else {
+        return String::new();
+    };
+    let operations = list(bytes.iter().map(u8::to_string));
+    let (left, length) = (bytes.len() / 4, bytes.len());
+    format!("waits, {left} left to run, {length} bytes\nremainder {operations}\n")
 }
 
 #[cfg(test)]

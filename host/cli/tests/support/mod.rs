@@ -62,6 +62,21 @@ pub fn prints(args: &[&str]) -> String {
     outcome.output
 }
 
+/// Asserts that the arguments are not read, and that the message holds these
+/// words and the hint.
+pub fn assert_unread(args: &[&str], words: &str) {
+    let Outcome {
+        status,
+        output,
+        error,
+    } = run(args);
+    assert_eq!((status, output.as_str()), (1, ""), "{args:?}");
+    assert!(error.contains(words), "{args:?}: {error}");
+    let hint = error.lines().last().unwrap();
+    assert!(hint.starts_with("see tigbayon"), "{args:?}: {error}");
+    assert!(hint.ends_with("--help"), "{args:?}: {error}");
+}
+
 /// An empty folder for the files of the test of this name.
 pub fn folder(name: &str) -> PathBuf {
     let folder = Path::new(env!("CARGO_TARGET_TMPDIR")).join(name);

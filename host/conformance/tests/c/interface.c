@@ -26,8 +26,9 @@ static void print_layouts(void)
     printf("TbPacked %u %u: %u %u %u\n", LAYOUT(TbPacked), AT(TbPacked, refusal),
            AT(TbPacked, count), AT(TbPacked, bits));
     printf("TbPlanes %u %u: %u\n", LAYOUT(TbPlanes), AT(TbPlanes, words));
-    printf("TbBank %u %u: %u %u %u %u %u\n", LAYOUT(TbBank), AT(TbBank, general),
-           AT(TbBank, b), AT(TbBank, ib), AT(TbBank, status), AT(TbBank, enable));
+    printf("TbBank %u %u: %u %u %u %u %u %u %u %u\n", LAYOUT(TbBank), AT(TbBank, general),
+           AT(TbBank, b), AT(TbBank, ib), AT(TbBank, status), AT(TbBank, enable),
+           AT(TbBank, waiting), AT(TbBank, left), AT(TbBank, list));
     printf("TbCycles %u %u: %u %u\n", LAYOUT(TbCycles), AT(TbCycles, refusal),
            AT(TbCycles, cycles));
     printf("TbRun %u %u: %u %u %u %u\n", LAYOUT(TbRun), AT(TbRun, refusal), AT(TbRun, end),
@@ -288,11 +289,21 @@ static void print_pixels(void)
     print_words(plane, 4);
 }
 
+static void print_ran(const char *call, TbRun answer, const TbBank *bank)
+{
+    printf("%s %u %u %" PRIu32 " %" PRIu32 ": %" PRIx64 " %x\n", call,
+           (unsigned)answer.refusal, (unsigned)answer.end, answer.ran, answer.cycles,
+           bank->general[1], (unsigned)bank->status);
+}
+
 static void print_run(TbRun answer, const TbBank *bank)
 {
-    printf("run %u %u %" PRIu32 " %" PRIu32 ": %" PRIx64 " %x\n", (unsigned)answer.refusal,
-           (unsigned)answer.end, answer.ran, answer.cycles, bank->general[1],
-           (unsigned)bank->status);
+    print_ran("run", answer, bank);
+}
+
+static void print_continued(TbRun answer, const TbBank *bank)
+{
+    print_ran("continue", answer, bank);
 }
 
 static void print_operated(TbCycles answer, const TbBank *bank)
@@ -308,7 +319,7 @@ static void print_register(TbRegister answer)
 
 static void print_unit(void)
 {
-    const TbBank fresh = {{0}, {0}, {0}, 0, 0};
+    const TbBank fresh = {{0}, {0}, {0}, 0, 0, 0, 0, {0}};
     uint8_t list[8] = {8, 0, 0, 3, 3, 1, 2, 3};
     TbBank bank = fresh;
     TbBank other;
@@ -320,8 +331,10 @@ static void print_unit(void)
     print_run(tb_run(&other, list, 8, 3), &other);
     print_run(tb_run(&bank, list, 8, 2), &bank);
     print_run(tb_run(&bank, list, 5, 3), &bank);
+    tb_drop(&bank);
     print_run(tb_run(&bank, NULL, 0, 0), &bank);
     print_run(tb_run(&bank, list, 8, 0), &bank);
+    tb_drop(&bank);
     bank.general[2] = 0xFFFFFFFFFFFFFFB6;
     bank.general[3] = 0xFFFFFFFFFFFFFFAD;
     print_operated(tb_operate(&bank, 10, 1, 2, 3), &bank);
@@ -334,6 +347,48 @@ static void print_unit(void)
     print_bytes(list);
 }
 
+static void print_waits(const TbBank *bank)
+{
+    printf("waits %u %" PRIu32 ":", (unsigned)bank->waiting, bank->left);
+    print_bytes(bank->list);
+}
+
+static void print_waiting(void)
+{
+    TbBank bank = {{0}, {0}, {0}, 0, 0, 0, 0, {0}};
+    const uint8_t list[8] = {8, 0, 0, 3, 3, 1, 2, 3};
+
+    printf("sizes %u %u %u\n", (unsigned)sizeof bank.waiting, (unsigned)sizeof bank.left,
+           (unsigned)sizeof bank.list);
+    print_waits(&bank);
+    print_continued(tb_continue(&bank, NULL, 0, 0), &bank);
+    tb_write(&bank, 2, 0xB6);
+    tb_write(&bank, 3, 0xAD);
+    print_run(tb_run(&bank, list, 8, 2), &bank);
+    print_waits(&bank);
+    print_operated(tb_operate(&bank, 10, 1, 2, 3), &bank);
+    print_operated(tb_operate(&bank, 10, 1, 2, 16), &bank);
+    print_run(tb_run(&bank, list + 4, 4, 1), &bank);
+    print_continued(tb_continue(&bank, list, 8, 3), &bank);
+    print_continued(tb_continue(&bank, list + 4, 3, 3), &bank);
+    printf("write %u\n", (unsigned)tb_write(&bank, 2, 0xFF));
+    print_continued(tb_continue(&bank, list + 4, 4, 0), &bank);
+    print_waits(&bank);
+    print_continued(tb_continue(&bank, list + 4, 4, 1), &bank);
+    print_waits(&bank);
+    print_continued(tb_continue(&bank, list + 4, 4, 1), &bank);
+    print_run(tb_run(&bank, list, 8, 0), &bank);
+    print_waits(&bank);
+    tb_drop(&bank);
+    print_waits(&bank);
+    bank.waiting = 7;
+    bank.left = 4097;
+    print_continued(tb_continue(&bank, list, 8, 3), &bank);
+    bank.left = 0;
+    print_continued(tb_continue(&bank, NULL, 0, 0), &bank);
+    print_waits(&bank);
+}
+
 static void print_polled(const char *call, const TbBank *bank)
 {
     printf("%s: %x %x: %x %u\n", call, (unsigned)bank->status, (unsigned)bank->enable,
@@ -342,7 +397,7 @@ static void print_polled(const char *call, const TbBank *bank)
 
 static void print_polling(void)
 {
-    const TbBank fresh = {{0}, {0}, {0}, 0, 0};
+    const TbBank fresh = {{0}, {0}, {0}, 0, 0, 0, 0, {0}};
     const uint8_t no_kind[4] = {0, 0, 0, 0};
     TbBank bank = fresh;
 
@@ -373,11 +428,11 @@ int main(void)
     const TbControls2 decoded = tb_decode(8, 0xAD);
 
     print_layouts();
-    printf("numbers %d %d %d %d %d %d %d %d %d %d %d %d %d %d\n", TB_CARRIED_OUT,
+    printf("numbers %d %d %d %d %d %d %d %d %d %d %d %d %d %d %d\n", TB_CARRIED_OUT,
            TB_REFUSAL_WIDTH, TB_REFUSAL_ABOVE, TB_REFUSAL_UNUSED, TB_REFUSAL_LENGTH,
            TB_REFUSAL_ENTRY, TB_REFUSAL_NOT_REALISED, TB_REFUSAL_KIND, TB_REFUSAL_REGISTER,
            TB_REFUSAL_RANGE, TB_REFUSAL_SHORT, TB_REFUSAL_SPARE, TB_REFUSAL_SUBWORD,
-           TB_REFUSAL_PLANE);
+           TB_REFUSAL_PLANE, TB_REFUSAL_WAITING);
     print_gathered("gather", tb_gather(8, 0xAD, 0xB6));
     print_gathered("scatter", tb_scatter(8, 0xAD, 0x1A));
     print_gathered("group", tb_group(8, 0xAD, 0xB6));
@@ -402,6 +457,7 @@ int main(void)
     print_subwords();
     print_pixels();
     print_unit();
+    print_waiting();
     print_polling();
     return 0;
 }

@@ -1,4 +1,4 @@
--- `runs::carry_out` meets its contract. Assumes nothing.
+-- `runs::go_on` meets its contract. Assumes nothing.
 use mathlib.Core.Path.{_≡_, refl}
 use mathlib.Core.Bool.{true, false}
 use Prim.Native.Nat.{_+_, _-_, _*_, _<_, _≤_}
@@ -11,8 +11,8 @@ use Rattle.runs.proofs.OperationLists.{operations-next, operations-end}
 use Rattle.unit.proofs.LentRegisters.{sized-after}
 use Rattle.unit.proofs.KeptNetworks.{kept-is}
 use Rattle.runs.proofs.Runs.{Going, going-none, going-next, going-spent, going-done}
-use Rattle.runs.proofs.carry_out.Statement.{statement}
-use Rattle.runs.proofs.carry_out.Tie as tie
+use Rattle.runs.proofs.go_on.Statement.{statement}
+use Rattle.runs.proofs.go_on.Tie as tie
 
 abbrev Inv-loop : tie.InvT-loop
 Inv-loop general₀ b₀ ib₀ ops budget falling₀ rising₀ left₀ ran₀ at₀ general b ib falling rising left ran at =
@@ -39,7 +39,7 @@ returns c =
     let ops = b .before .before .before .before .before .before .before .args .ops .now in
     let h : l .at + 3 < length ops = search needs in
     let g = rw (operations-next ops (l .at) h) at (l .inv .5) in
-    rw (c .ended .ensures) (going-spent g (b .cycles-of .ensures) (c .before .if1 .taken))
+    rw (c .reached .ensures) (going-spent g (b .cycles-of .ensures) (c .before .if1 .taken))
 
 loop-again : tie.Need-loop-again Inv-loop μ-loop
 loop-again c =
@@ -55,10 +55,10 @@ returns-2 : tie.Need-returns-2 Inv-loop μ-loop
 returns-2 c =
     let l = c .before .before .loop in
     let ops = c .before .before .before .before .before .before .args .ops .now in
-    rw (c .ended2 .ensures) (going-done (rw (operations-end ops (l .at) (c .before .loop-test .left)) at (l .inv .5)))
+    rw (c .reached2 .ensures) (going-done (rw (operations-end ops (l .at) (c .before .loop-test .left)) at (l .inv .5)))
 
-pub carry-out-spec : {M : Type 1} → statement M
-carry-out-spec =
+pub go-on-spec : {M : Type 1} → statement M
+go-on-spec =
     tie.close
     (tie.spec
     Inv-loop
