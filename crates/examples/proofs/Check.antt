@@ -2,7 +2,6 @@
 use mathlib.Core.Path.{_≡_, refl}
 use mathlib.Core.Bool.{Bool, true, _&&_}
 use mathlib.Core.List.{List, [], _∷_}
-use Prim.Native.Nat.{ℕ}
 use Rattle.bits.specs.Bit.{bit, ofBits, rank, places, pick, put}
 use Rattle.bits.proofs.Refusals.{both}
 use Rattle.network.specs.Stage.{switchOf, partner, source, stage, travel, falling, rising, butterflyOf, inverseOf}

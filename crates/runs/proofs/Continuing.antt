@@ -1,7 +1,7 @@
 -- Req 10: a run and its continuations come to one list of steps. Assumes nothing.
-use mathlib.Core.Path.{_≡_, refl, sym, _∙_, ap, ap₂, subst, subst⁻¹}
+use mathlib.Core.Path.{_≡_, refl, sym, _∙_, ap, subst, subst⁻¹}
 use mathlib.Core.Bool.{Bool, true, false, not, cond, true≢false}
-use mathlib.Core.List.{List, [], _∷_, _++_, map, append-nil, append-assoc}
+use mathlib.Core.List.{List, [], _∷_, _++_, map}
 use mathlib.Core.Logic.{_⊎_, inl, inr}
 use Prim.Native.Nat.{ℕ, zero, suc, _+_, _*_, _%_, _<_, _≤_}
 use native.Mathlib.Omega.{arith}
@@ -12,16 +12,15 @@ use borrow.Author.Tests.{ltb-true, ltb-false, eq-eqb, le-leb}
 use Rattle.bits.proofs.Refusals.{neither}
 use Rattle.unit.specs.declared.Registers.{Registers}
 use Rattle.unit.specs.declared.Bank.{Bank}
-use Rattle.unit.specs.Bank.{waits, withRegisters, leaving, withRegister}
+use Rattle.unit.specs.Bank.{waits, withRegisters, withRegister}
 use Rattle.unit.specs.Operation.{figures, cyclesOf, isKind, usedOf, areRegisters, Operation, stepBy}
 use Rattle.unit.specs.Calls.{numberRefusal, writeOf, writeLent, written}
-use Rattle.unit.specs.Lent.{bare, carrying}
+use Rattle.unit.specs.Lent.{bare}
 use Rattle.unit.proofs.Carried.{step-carries}
-use Rattle.runs.specs.declared.Turn.{Turn}
 use Rattle.runs.specs.declared.Outcome.{Outcome}
-use Rattle.runs.specs.Run.{operationsOf, stepsOf, sumOf, ranOf, anyKind, anyRegister, runRefusal, turnOf, endOf, noted, remembering, dropLent, outcomeOf, performOf, runOf, continues, continueOf}
+use Rattle.runs.specs.Run.{operationsOf, stepsOf, sumOf, ranOf, anyKind, anyRegister, runRefusal, endOf, noted, remembering, dropLent, performOf, runOf, continues, continueOf}
 use Rattle.runs.specs.Continued.{remainderOf, Continuation, writesLent, continuedBy, continuedOf, budgetsAlone, Step, operating, writing, stepped, throughOf, operationsIn, asWriting, standing, Comes, AtLeastThree, WaitsAlike}
-use Rattle.runs.proofs.OperationLists.{run-within, run-accepts, run-alone, run-refusal-by, length-operations, operations-after}
+use Rattle.runs.proofs.OperationLists.{run-within, run-accepts, run-alone, operations-after}
 use Rattle.runs.proofs.Runs.{ran-fits, ran-le}
 use Rattle.runs.proofs.Ends.{within-list}
 use Rattle.runs.proofs.Theorems.{perform-is, perform-not, run-ample}

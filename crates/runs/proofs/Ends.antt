@@ -1,5 +1,5 @@
 -- A run by the steps of the code: it goes on, and ends. Assumes nothing.
-use mathlib.Core.Path.{_≡_, refl, sym, _∙_, ap, subst}
+use mathlib.Core.Path.{_≡_, refl, sym, _∙_, ap}
 use mathlib.Core.Bool.{Bool, true, false, cond}
 use mathlib.Core.List.{List, _++_}
 use Prim.Native.Nat.{ℕ, _*_, _%_, _≤_}
@@ -13,7 +13,6 @@ use Rattle.unit.specs.Operation.{Operation}
 use Rattle.unit.specs.Lent.{bare, carrying}
 use Rattle.runs.specs.declared.Turn.{Turn}
 use Rattle.runs.specs.declared.Marks.{Marks}
-use Rattle.runs.specs.declared.Outcome.{Outcome}
 use Rattle.runs.specs.StatusByte.{withBit}
 use Rattle.runs.specs.Run.{operationsOf, ranOf, reaching, turnOf, endOf, statusBit, noted, remembering, dropLent, endedOf, marksOf, withMarks, outcomeOf}
 use Rattle.runs.proofs.OperationLists.{length-operations}

@@ -3,12 +3,12 @@ use mathlib.Core.Path.{_≡_, refl, sym, _∙_, ap, subst}
 use mathlib.Core.Bool.{Bool, true, false, not, cond, true≢false}
 use mathlib.Core.List.{List, [], _∷_, _++_}
 use mathlib.Core.Logic.{_↔_}
-use Prim.Native.Nat.{ℕ, _*_, _≤_}
+use Prim.Native.Nat.{ℕ, _*_, _<_}
 use native.Mathlib.Omega.{arith}
 use lib.Dec.{eqb, ltb}
-use lib.ListN.{length, take, drop}
+use lib.ListN.{length, take, drop, length-take}
 use lib.Seq.{take-append-seam}
-use borrow.Author.Tests.{eq-eqb, eqb-true, not-true}
+use borrow.Author.Tests.{eq-eqb, eqb-true}
 use Rattle.bits.specs.Bit.{bit, ofBits}
 use Rattle.bits.proofs.Refusals.{both}
 use Rattle.unit.specs.declared.Registers.{Registers}
@@ -21,13 +21,13 @@ use Rattle.unit.proofs.Carried.{operate-words, write-words}
 use Rattle.runs.specs.declared.Turn.{Turn}
 use Rattle.runs.specs.declared.Outcome.{Outcome}
 use Rattle.runs.specs.StatusByte.{withBit}
-use Rattle.runs.specs.Run.{operationsOf, stepsOf, sumOf, ranOf, anyKind, anyRegister, runRefusal, turnOf, reaching, endOf, noted, remembering, dropOf, dropLent, endedOf, outcomeOf, refusedOf, performOf, runOf, same, isRemainder, continues, continueOf}
+use Rattle.runs.specs.Run.{operationsOf, stepsOf, sumOf, ranOf, anyKind, anyRegister, runRefusal, turnOf, reaching, endOf, noted, remembering, dropOf, dropLent, outcomeOf, performOf, runOf, same, isRemainder, continues, continueOf}
 use Rattle.runs.specs.BankCalls.{BankCall, callLook, callOperate, callRun, callContinue, callDrop, callWrite, callEnable, callAcknowledge, leftBy}
 use Rattle.runs.specs.Continued.{remainderOf, writesLent, Ending, WaitsAlike}
 use Rattle.runs.proofs.OperationLists.{run-alone}
 use Rattle.runs.proofs.Remainders.{same-eq, same-refl}
 use Rattle.runs.proofs.BytesKept.{steps-carry}
-use Rattle.runs.proofs.Theorems.{perform-is, perform-not}
+use Rattle.runs.proofs.Theorems.{perform-is, perform-not, run-ample}
 
 -- A fresh bank does not wait.
 pub fresh-waits-not : waits fresh ≡ false
@@ -43,6 +43,25 @@ remainder-exactly k bytes = (
       (w .0, eqb-true (length bytes) (k .registers .left) (r .0), same-eq (remainderOf k) bytes (r .1)),
   λ h. rw (h .0, eq-eqb (length bytes) (k .registers .left) (h .1), h .2) (same-refl bytes),
 )
+
+-- Where more bytes are left than the bank's list has, no list continues it.
+pub too-many-left : (k : Bank) (bytes : List ℕ) → length (k .list) < k .registers .left → continues k bytes ≡ false
+too-many-left k bytes h = by-test (continues k bytes) refl
+  where
+    by-test : (b : Bool) → continues k bytes ≡ b → b ≡ false
+    by-test true e =
+        let r = remainder-exactly k bytes .0 e in
+        let l = sym (length-take (k .registers .left) (k .list)) ∙ ap length (r .2) in
+        absurd (omega (arith, l, r .1, h))
+    by-test false e = refl
+
+-- Where none is left of a run that waits, the empty list does, and is done.
+pub none-left : (k : Bank) (budget : ℕ) → waits (k .registers) ≡ true → k .registers .left ≡ 0
+    → continueOf k [] budget ≡ leaving (record { refusal = 0; «end» = 1; ran = 0; cycles = 0 }) (noted (dropLent k) 1)
+unfolding runRefusal operationsOf anyKind anyRegister sumOf stepsOf
+none-left k budget w e =
+    let c = remainder-exactly k [] .1 (w, sym e, ap (λ (n : ℕ). take n (k .list)) e) in
+    ap (λ (b : Bool). performOf (not b) k [] budget) c ∙ run-ample false k [] budget refl (omega arith)
 
 -- Worked by hand: three loads, each of one cycle, on registers 2 and 3, and in between 0xFF written to register 2
 abbrev hosted : Bank
@@ -80,7 +99,7 @@ pub hand-waiting : (shown turn1 ≡ 0 ∷ 2 ∷ 1 ∷ 1 ∷ 2 ∷ 1 ∷ 8 ∷ 5 
 unfolding performOf runRefusal operationsOf anyKind anyRegister ranOf sumOf stepsOf cyclesOf effectOf loadOf same writeOf numberRefusal operateOf operationRefusal withBit ofBits bit
 hand-waiting = (refl, refl, refl, refl, refl)
 
--- Under every call but these two a waiting bank keeps waiting, for the same bytes.
+-- Under every call but a run continued that is not refused, and dropping, a waiting bank keeps waiting, for the same bytes.
 
 alike-none : {k : Bank} → WaitsAlike k k
 alike-none = record { waiting = refl; left = refl; list = refl }

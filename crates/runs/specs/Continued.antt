@@ -85,7 +85,7 @@ pub record Comes (k : Registers) (os : List Operation) (ss : List Step) (t : Tur
   pub cycles : t .0 .cycles ≡ sumOf (operationsIn ss)
   pub all : waits (t .1 .registers) ≡ false → t .0 .ran ≡ length os
 
--- budgets of three cycles, which every operation fits in
+-- budgets of at least three cycles, in which any operation fits
 abbrev pub AtLeastThree : List Continuation → Type 0
 AtLeastThree [] = Unit
 AtLeastThree (c ∷ cs) = (3 ≤ c .budget) × AtLeastThree cs

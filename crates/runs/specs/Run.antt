@@ -47,15 +47,14 @@ unfoldable pub anyRegister : List Operation → Bool
 anyRegister [] = false
 anyRegister (o ∷ os) = not (areRegisters (usedOf (o .0) (o .1) (o .2) (o .3))) || anyRegister os
 
--- 'Calls turned back': 7 and 8 of any operation of the list
+-- 'Calls turned back': 7 and 8 of any operation of the list; of paper 02, Req 10, 14, where `other` says that it applies
 abbrev pub operationsConditions : Bool → List Operation → List (ℕ × Bool)
 operationsConditions other os = (7, anyKind os) ∷ (8, anyRegister os) ∷ (14, other) ∷ []
 
 unfoldable pub operationsRefusal : Bool → List Operation → ℕ
 operationsRefusal other os = lowest (operationsConditions other os)
 
--- before them 4, "run list not a multiple of 4 bytes, or above 4,096 bytes"; after them, of paper 02, Req 10, 14: `other` says if it applies. The whole list is
--- checked before its first operation.
+-- before them 4, "run list not a multiple of 4 bytes, or above 4,096 bytes". The whole list is checked before its first operation.
 abbrev pub runConditions : Bool → List ℕ → List (ℕ × Bool)
 runConditions other bytes =
     (4, not (eqb (length bytes % 4) 0) || not (leb (length bytes) 4096)) ∷ operationsConditions other (operationsOf bytes)
@@ -63,7 +62,7 @@ runConditions other bytes =
 unfoldable pub runRefusal : Bool → List ℕ → ℕ
 runRefusal other bytes = lowest (runConditions other bytes)
 
--- Going on: while the next operation fits, from the registers k. The operations run, the sum of their cycles, and the registers after them
+-- Going on from the registers k within a budget: the operations run, the sum of their cycles, and the registers after them
 abbrev pub reaching : Turn → Registers → Turn × Registers
 reaching t k = (t, k)
 
@@ -120,6 +119,7 @@ outcomeOf k bytes t =
 abbrev pub refusedOf : Bank → ℕ → Outcome × Bank
 refusedOf k r = leaving (record { refusal = r; «end» = 0; ran = 0; cycles = 0 }) (noted k 0)
 
+-- a run, new or continued
 unfoldable pub performOf : Bool → Bank → List ℕ → ℕ → Outcome × Bank
 performOf other k bytes budget =
     cond (eqb (runRefusal other bytes) 0)

@@ -1,7 +1,7 @@
 -- Demand 1, of the register unit's calls: the lowest refusal, zeros beside it, and the registers as they were. Assumes nothing.
 use mathlib.Core.Path.{_≡_, refl}
 use mathlib.Core.Bool.{Bool, not}
-use mathlib.Core.List.{List, [], _∷_}
+use mathlib.Core.List.{[], _∷_}
 use Prim.Native.Nat.{ℕ}
 use native.Mathlib.Omega.{arith}
 use Rattle.bits.specs.Refusal.{lowest, AnswersLowest}

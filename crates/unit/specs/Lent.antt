@@ -1,4 +1,5 @@
--- The words of the registers as inner functions lend them, one array each. No public contract cites this file. Assumes nothing.
+-- The words of the registers as inner functions lend them, one array each. No call's contract cites this file; theorems do, by `bare` and `carrying`.
+-- Assumes nothing.
 use mathlib.Core.Path.{_≡_}
 use mathlib.Core.Bool.{Bool, cond, _&&_}
 use mathlib.Core.List.{List, _++_}

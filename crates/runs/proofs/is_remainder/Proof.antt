@@ -1,12 +1,9 @@
 -- `runs::is_remainder` meets its contract. Assumes nothing.
-use mathlib.Core.Path.{_≡_, sym, _∙_, ap}
-use mathlib.Core.Bool.{Bool, false, _&&_}
+use mathlib.Core.Path.{_≡_}
 use native.Mathlib.Omega.{arith}
 use borrow.Author.Needs.{needs}
 use borrow.Author.Tests.{eq-eqb, ne-eqb}
-use lib.Dec.{eqb}
-use lib.ListN.{length, take}
-use Rattle.runs.specs.Run.{same}
+use lib.ListN.{length}
 use Rattle.runs.proofs.Remainders.{not-same}
 use Rattle.runs.proofs.is_remainder.Statement.{statement}
 use Rattle.runs.proofs.is_remainder.Tie as tie
