@@ -121,6 +121,7 @@ pub fn go_on(
     reached(ran, budget - left)
 }
 
+// So far.
 fn reached(ran: u32, cycles: u32) -> Turn
     ensures { λ r. ⌜ r ≡ record { ran = ran; cycles = cycles } ⌝ }
 {
@@ -171,13 +172,6 @@ fn remember(list: &mut [u8; 4096], rest: &[u8])
     }
 }
 
-// The byte at which the operations begin that come after `ran`.
-fn start_after(ran: u32) -> usize
-    ensures { λ r. ⌜ r ≡ 4 * ran ⌝ }
-{
-    4 * (ran as usize)
-}
-
 // internal: a bank's marks and list, and whole operations, at most 1,024, of which `ran` have been run on it. The end of their run: the bank waits for the others, or
 // no longer, and its status has the end's bit.
 pub fn finish(marks: Marks, list: &mut [u8; 4096], ops: &[u8], ran: u32) -> Marks
@@ -191,7 +185,7 @@ pub fn finish(marks: Marks, list: &mut [u8; 4096], ops: &[u8], ran: u32) -> Mark
         after.waiting = 0;
         return after;
     }
-    let start = start_after(ran);
+    let start = unit::bytes_of(ran);
     let rest = &ops[start..];
     remember(list, rest);
     after.waiting = 1;

@@ -247,6 +247,13 @@ pub fn cycles_of(kind: u8) -> u32
     ((CYCLES >> (4 * (kind as u64))) % 16) as u32
 }
 
+// The bytes of so many operations, four each.
+pub fn bytes_of(operations: u32) -> usize
+    ensures { λ r. ⌜ r ≡ 4 * operations ⌝ }
+{
+    4 * (operations as usize)
+}
+
 // Whether the kind is one of the table, and in kind 5 r1 one of its four.
 pub fn is_kind(kind: u8, r1: u8) -> bool
     ensures { λ r. ⌜ r ≡ isKind kind r1 ⌝ }

@@ -29,13 +29,13 @@ remember-requires : tie.Need-remember-requires
 remember-requires c κs =
     let b = c .before .before in
     let s = b .before .before .before .before .before in
-    (s .pre .0, short (s .args .ops .now) (b .start-after .result) (s .pre .2))
+    (s .pre .0, short (s .args .ops .now) (b .bytes-of .result) (s .pre .2))
 
 cast-after : tie.Need-cast-after
 cast-after c =
     let b = c .before .before .before in
     let s = b .before .before .before .before .before in
-    let h = short (s .args .ops .now) (b .start-after .result) (s .pre .2) in
+    let h = short (s .args .ops .now) (b .bytes-of .result) (s .pre .2) in
     omega (arith, h)
 
 returns-2 : tie.Need-returns-2
@@ -45,7 +45,7 @@ returns-2 c =
     let b = i .before in
     let a = b .before .before .before .args in
     ended-spent (a .list .now) (a .ops .now) (withMarks fresh (a .marks)) (a .ran) (b .before .end-of .ensures) (b .status-after .ensures) (i .if1 .left)
-    (rest (a .ops .now) (d .start-after .result) ∙ ap (λ (n : ℕ). drop n (a .ops .now)) (d .start-after .ensures)) (c .remember .ensures)
+    (rest (a .ops .now) (d .bytes-of .result) ∙ ap (λ (n : ℕ). drop n (a .ops .now)) (d .bytes-of .ensures)) (c .remember .ensures)
 
 pub finish-spec : {M : Type 1} → statement M
 finish-spec =
