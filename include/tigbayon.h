@@ -32,7 +32,7 @@
 
 /* The version of this header, and of the archive that it belongs to. */
 #define TB_VERSION_MAJOR 0
-#define TB_VERSION_MINOR 11
+#define TB_VERSION_MINOR 12
 #define TB_VERSION_PATCH 0
 
 #ifdef __cplusplus
@@ -61,8 +61,9 @@ enum TbRefusal {
     TB_REFUSAL_SUBWORD = 12,     /* subword size not 1, 2, 4, 8, 16, 32 */
     TB_REFUSAL_PLANE = 13,       /* no rows, no words in a row, or the plane's length not
                                     their product */
-    TB_REFUSAL_WAITING = 14      /* another run waits, or none does, or the list is not the
+    TB_REFUSAL_WAITING = 14,     /* another run waits, or none does, or the list is not the
                                     remainder */
+    TB_REFUSAL_FRAME = 15        /* the guarantees sum above the cycles of the frame */
 };
 
 /* The answer of tb_gather, tb_scatter and tb_group. */
@@ -483,18 +484,18 @@ uint8_t tb_despeckle(const uint64_t *plane, size_t length, size_t rows, size_t r
  * at. Operands are read before the result is written, and all other registers
  * stay as they were. Kinds 6, 7 and 10 write the word alone, no count. A refused
  * call leaves the whole bank as it was, but for a bit of the status byte that a
- * refused run sets.
+ * refused run or frame sets.
  *
  * The status byte tells how runs ended, until that is acknowledged; the enable byte
- * says for which of its bits the interrupt line is high. Only tb_run, tb_continue and
- * tb_acknowledge change the status byte, only tb_enable the enable byte.
+ * says for which of its bits the interrupt line is high. Only tb_run, tb_continue,
+ * tb_frame and tb_acknowledge change the status byte, only tb_enable the enable byte.
  *
  * A run that ends spent leaves the bank waiting, with a copy of the operations left,
- * the remainder. tb_continue goes on with a fresh budget, tb_drop gives the run up;
- * until it is done or dropped, tb_operate and tb_run are refused. What tb_write
- * writes meanwhile the operations still to come see, as if it stood in the list
- * there. Only tb_run, tb_continue and tb_drop change whether a bank waits, only the
- * first two its remainder.
+ * the remainder. tb_continue goes on with a fresh budget, and so does tb_frame;
+ * tb_drop gives the run up. Until it is done or dropped, tb_operate and tb_run are
+ * refused. What tb_write writes meanwhile the operations still to come see, as if it
+ * stood in the list there. Only tb_run, tb_continue, tb_frame and tb_drop change
+ * whether a bank waits, only the first three its remainder.
  *
  * Any bytes are accepted in a bank. It has 4,280 of them.
  */
@@ -520,7 +521,7 @@ typedef struct {
 enum TbStatus {
     TB_STATUS_DONE = 1,   /* a run, or a continued one, ended done */
     TB_STATUS_SPENT = 2,  /* one ended spent */
-    TB_STATUS_REFUSED = 4 /* one was refused */
+    TB_STATUS_REFUSED = 4 /* one was refused, or a frame was */
 };
 
 /* The answer of tb_operate. */
@@ -596,6 +597,55 @@ TbRun tb_continue(TbBank *bank, const uint8_t *operations, size_t length, uint32
  * else in the bank stays as it was. Nothing is refused.
  */
 void tb_drop(TbBank *bank);
+
+/*
+ * Frames. Four channels, numbered 0 to 3, each with a bank and a list of operations,
+ * share one frame. Each has a guarantee, a number of cycles that are its own.
+ */
+
+/* What tb_frame answers for one channel, of both its turns together. */
+typedef struct {
+    uint8_t end;     /* an enum TbEnd */
+    uint32_t ran;    /* the count of operations run by this call; 0 if it is refused */
+    uint32_t cycles; /* the sum of their cycles; 0 if the call is refused */
+} TbChannel;
+
+/* The answer of tb_frame. */
+typedef struct {
+    uint8_t refusal;       /* an enum TbRefusal */
+    TbChannel channels[4]; /* by their numbers; zeros if the call is refused */
+} TbFrame;
+
+/*
+ * Frame: four channels in a frame of `cycles` cycles. In number order each channel
+ * runs its list within its guarantee, as by tb_run. What the four left of their
+ * guarantees is one sum, the rest. In number order each channel that is not done then
+ * runs on within what is left of the rest. Cycles beyond the sum of the guarantees are
+ * not handed out. So each channel runs at least the operations that its guarantee alone
+ * carries, and the four together use no more cycles than that sum.
+ *
+ * Where a bank waits, its list is that of a continued run, the remainder byte for byte
+ * as in tb_continue; else it is that of a new run. At the end of the frame each channel
+ * sets its bank's status byte and what that remembers, once, as one run does: done, or
+ * spent, with the operations left that neither turn ran. So two frames carried out leave
+ * a channel the same bank if they bring it the same bank and list and it ran equally
+ * many operations in both, whatever the other three bring.
+ *
+ * All four lists are checked before a channel starts, whatever the guarantees. A
+ * refused call sets TB_STATUS_REFUSED in all four banks and changes nothing else.
+ *
+ * The four banks must be different ones, and neither a list nor the guarantees may
+ * overlap a bank: of a remainder the caller lends its own copy. Lists may overlap each
+ * other.
+ * Refusals, the lowest number over all four lists: TB_REFUSAL_LENGTH,
+ * TB_REFUSAL_KIND, TB_REFUSAL_REGISTER, TB_REFUSAL_WAITING (a bank waits, and its list
+ * is not its remainder), TB_REFUSAL_FRAME (the sum of the guarantees, the true one of
+ * any four numbers, is above `cycles`).
+ */
+TbFrame tb_frame(TbBank *bank0, TbBank *bank1, TbBank *bank2, TbBank *bank3,
+                 const uint8_t *list0, size_t length0, const uint8_t *list1, size_t length1,
+                 const uint8_t *list2, size_t length2, const uint8_t *list3, size_t length3,
+                 const uint32_t guarantees[4], uint32_t cycles);
 
 /*
  * Read: the value of a general register.

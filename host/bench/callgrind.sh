@@ -3,6 +3,7 @@
 # callgrind.sh [NAME [SIZE]], for the calls whose name contains NAME, on inputs of SIZE, one of those that the bench prints.
 # Two runs are subtracted: one makes the calls, the other only what they need. Each call's share of the loop is left in:
 # `nothing` is that share, `bank` the same with a fresh bank, as it is in the calls that change one.
+# The calls of frames have four of these; those named by_runs are the same by tb_run and tb_continue.
 set -euo pipefail
 cd "$(dirname "$0")/.."
 

@@ -37,6 +37,8 @@ pub const PLANE: u8 = 13; // a plane's rows or words a row are zero, or their pr
 
 pub const WAITING: u8 = 14; // another run waits, or none does, or the list is not the remainder (paper 02, Req 10)
 
+pub const FRAME: u8 = 15; // the guarantees of a frame sum above its cycles (paper 02, Req 11)
+
 // The base-two logarithm of an accepted width, 0 for any other number.
 pub fn log_of(width: u32) -> u32
     ensures { λ r. ⌜ r ≡ logOf width ⌝ }

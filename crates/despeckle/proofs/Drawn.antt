@@ -3,10 +3,10 @@ use mathlib.Core.Path.{_≡_, refl}
 use mathlib.Core.List.{List, [], _∷_}
 use Prim.Native.Nat.{ℕ, _^_}
 use Rattle.bits.specs.Bit.{bit, ofBits, upTo, rank}
-use Rattle.despeckle.specs.Plane.{pixel, framed, window, around, litRule, newWord, despeckled}
+use Rattle.despeckle.specs.Plane.{pixel, bordered, window, around, litRule, newWord, despeckled}
 use Rattle.despeckle.specs.Calls.{planeRefusal}
 
--- Row 0 has two pixels side by side across the border of its words, and a lone one at its end. That is no neighbour of the one at the beginning of row 1, which is
+-- Row 0 has two pixels side by side across the edge of its words, and a lone one at its end. That is no neighbour of the one at the beginning of row 1, which is
 -- lone too. Rows 1 and 2 have two that touch at a corner; row 2 has a lone one in its second word.
 abbrev drawn : List ℕ
 drawn =
@@ -26,7 +26,7 @@ pub drawn-plane : despeckled drawn 2 3
     ∷ 0x0000008000000000
     ∷ 0x0000000000000000
     ∷ []
-unfolding upTo newWord litRule rank bit ofBits window framed pixel
+unfolding upTo newWord litRule rank bit ofBits window bordered pixel
 drawn-plane = refl
 
 -- Three rows of one word, which begin with # . . and . # # and . # ., and of which the last ends with #. The rule does not see in which order the eight neighbours
@@ -36,7 +36,7 @@ cornered = 0x8000000000000000 ∷ 0x6000000000000000 ∷ 0x4000000000000001 ∷ 
 
 pub drawn-numbers : (around cornered 1 3 1 1 ≡ 0b100011010) × (around cornered 1 3 0 0 ≡ 0b000010001) × (around cornered 1 3 2 1 ≡ 0b011010000)
     × (around cornered 1 3 2 63 ≡ 0b000010000)
-unfolding window ofBits framed pixel bit
+unfolding window ofBits bordered pixel bit
 drawn-numbers = (refl, refl, refl, refl)
 
 -- Of lists of `own` and `other` words, h rows of v words: planes of 6 and of 2,048 words; a list of 2,049 words, whatever else applies; v×h words missing, by the

@@ -1,5 +1,5 @@
 pub mod Sliding
-pub mod Frame
+pub mod Border
 pub mod Rows
 pub mod PlaneAnswers
 pub mod Rule

@@ -6,7 +6,7 @@ use native.Mathlib.Omega.{arith}
 use lib.Arith.{digits-div, digits-mod}
 use Rattle.bits.specs.Bit.{bit, ofBits}
 use Rattle.bits.proofs.Word.{ofBits-same}
-use Rattle.despeckle.specs.Plane.{framed, around, litRule, newWord}
+use Rattle.despeckle.specs.Plane.{bordered, around, litRule, newWord}
 use Rattle.despeckle.specs.Window.{Columns, Passes}
 
 module _ (ws : List ℕ) (v h y at : ℕ) where
@@ -19,19 +19,19 @@ module _ (ws : List ℕ) (v h y at : ℕ) where
 
   -- a turn of the loop along the row
   module _ (above own below : ℕ) {start number word : ℕ} (p : Passes 64 start above own below number word)
-      (a : (k : ℕ) → k < 64 → bit above k ≡ framed ws v h y (64 * at + (66 - k)))
-      (o : (k : ℕ) → k < 64 → bit own k ≡ framed ws v h (y + 1) (64 * at + (66 - k)))
-      (b : (k : ℕ) → k < 64 → bit below k ≡ framed ws v h (y + 2) (64 * at + (66 - k)))
+      (a : (k : ℕ) → k < 64 → bit above k ≡ bordered ws v h y (64 * at + (66 - k)))
+      (o : (k : ℕ) → k < 64 → bit own k ≡ bordered ws v h (y + 1) (64 * at + (66 - k)))
+      (b : (k : ℕ) → k < 64 → bit below k ≡ bordered ws v h (y + 2) (64 * at + (66 - k)))
       (e : start ≡ around ws v h y (64 * at)) where
-    columns : Columns 64 (framed ws v h) y (64 * at + 3) above own below
+    columns : Columns 64 (bordered ws v h) y (64 * at + 3) above own below
     columns = record { above-at = by y above a; own-at = by (y + 1) own o; below-at = by (y + 2) below b }
       where
-        by : (r row : ℕ) → ((k : ℕ) → k < 64 → bit row k ≡ framed ws v h r (64 * at + (66 - k)))
-            → (i : ℕ) → i < 64 → bit row i ≡ framed ws v h r (64 * at + 3 + (64 - 1 - i))
-        by r row f i l = let z : 64 * at + (66 - i) ≡ 64 * at + 3 + (64 - 1 - i) = omega arith in f i l ∙ ap (framed ws v h r) z
+        by : (r row : ℕ) → ((k : ℕ) → k < 64 → bit row k ≡ bordered ws v h r (64 * at + (66 - k)))
+            → (i : ℕ) → i < 64 → bit row i ≡ bordered ws v h r (64 * at + 3 + (64 - 1 - i))
+        by r row f i l = let z : 64 * at + (66 - i) ≡ 64 * at + 3 + (64 - 1 - i) = omega arith in f i l ∙ ap (bordered ws v h r) z
 
     pub number-next : number ≡ around ws v h y (64 * (at + 1))
-    number-next = let z : 64 * at + 64 ≡ 64 * (at + 1) = omega arith in p .passed (framed ws v h) y (64 * at) e columns .0 ∙ ap (around ws v h y) z
+    number-next = let z : 64 * at + 64 ≡ 64 * (at + 1) = omega arith in p .passed (bordered ws v h) y (64 * at) e columns .0 ∙ ap (around ws v h y) z
 
     pub word-passed : at < v → word ≡ newWord ws v h (y * v + at)
-    word-passed l = p .passed (framed ws v h) y (64 * at) e columns .1 ∙ sym (new-word l)
+    word-passed l = p .passed (bordered ws v h) y (64 * at) e columns .1 ∙ sym (new-word l)

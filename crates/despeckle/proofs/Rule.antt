@@ -13,9 +13,9 @@ use Rattle.bits.specs.Bit.{bit, rank}
 use Rattle.bits.proofs.Word.{digit}
 use Rattle.bits.proofs.Rank.{rank-lt, select}
 use Rattle.bits.proofs.Refusals.{both}
-use Rattle.despeckle.specs.Plane.{pixel, framed, around, litRule}
+use Rattle.despeckle.specs.Plane.{pixel, bordered, around, litRule}
 use Rattle.despeckle.specs.Beside.{LitBeside}
-use Rattle.despeckle.proofs.Frame.{framed-is, framed-lt}
+use Rattle.despeckle.proofs.Border.{bordered-is, bordered-lt}
 use Rattle.despeckle.proofs.Sliding.{bit-window, rule-lt}
 
 -- of a number
@@ -55,17 +55,17 @@ rule-bits n e = found (tests (eqb (bit n 4) 1 && ltb 1 (rank n 9)) e)
 -- of a pixel
 
 module _ (ws : List ℕ) (v h y x : ℕ) where
-  around-bit : (i : ℕ) → i < 9 → bit (around ws v h y x) i ≡ framed ws v h (y + (2 - i / 3)) (x + (2 - i % 3))
+  around-bit : (i : ℕ) → i < 9 → bit (around ws v h y x) i ≡ bordered ws v h (y + (2 - i / 3)) (x + (2 - i % 3))
   around-bit i l =
       let p : y + 2 - i / 3 ≡ y + (2 - i / 3) = omega arith in
       let q : x + 2 - i % 3 ≡ x + (2 - i % 3) = omega arith in
-      bit-window (framed ws v h) y x i l ∙ mod-eq-of-lt (framed-lt ws v h (y + 2 - i / 3) (x + 2 - i % 3)) ∙ ap₂ (framed ws v h) p q
+      bit-window (bordered ws v h) y x i l ∙ mod-eq-of-lt (bordered-lt ws v h (y + 2 - i / 3) (x + 2 - i % 3)) ∙ ap₂ (bordered ws v h) p q
 
-  pub own-pixel : framed ws v h (y + 1) (x + 1) ≡ pixel ws v h y x
+  pub own-pixel : bordered ws v h (y + 1) (x + 1) ≡ pixel ws v h y x
   own-pixel =
       let p : y + 1 - 1 ≡ y = omega arith in
       let q : x + 1 - 1 ≡ x = omega arith in
-      framed-is ws v h (y + 1) (x + 1) (omega arith) (omega arith) ∙ ap₂ (pixel ws v h) p q
+      bordered-is ws v h (y + 1) (x + 1) (omega arith) (omega arith) ∙ ap₂ (pixel ws v h) p q
 
   -- "the new dot is lit exactly if bit 4 and at least one other bit are one"
   pub new-exactly : (litRule (around ws v h y x) ≡ 1) ↔ ((pixel ws v h y x ≡ 1) × LitBeside ws v h y x)
@@ -94,7 +94,7 @@ module _ (ws : List ℕ) (v h y x : ℕ) where
           let c : 2 - i % 3 ≡ b .right = omega (arith, b .down-near, b .right-near) in
           let l : i < 9 = omega (arith, b .down-near, b .right-near) in
           rule-lit (around ws v h y x) (around-bit 4 (omega arith) ∙ own-pixel ∙ q .0)
-          (i, l, (λ z. b .other (omega (arith, z, r), omega (arith, z, c))), around-bit i l ∙ ap₂ (λ (m n : ℕ). framed ws v h (y + m) (x + n)) r c ∙ b .lit)
+          (i, l, (λ z. b .other (omega (arith, z, r), omega (arith, z, c))), around-bit i l ∙ ap₂ (λ (m n : ℕ). bordered ws v h (y + m) (x + n)) r c ∙ b .lit)
 
   -- so a pixel that is dark stays dark, and one with no lit pixel beside it goes out
 
@@ -108,7 +108,7 @@ module _ (ws : List ℕ) (v h y x : ℕ) where
   pub dark-stays : pixel ws v h y x ≡ 0 → litRule (around ws v h y x) ≡ 0
   dark-stays z = not-lit (λ e. absurd (omega (arith, new-exactly .0 e .0, z)))
 
-  pub lone-goes-out : ((down right : ℕ) → down < 3 → right < 3 → ((down ≡ 1) × (right ≡ 1) → ⊥) → framed ws v h (y + down) (x + right) ≡ 0)
+  pub lone-goes-out : ((down right : ℕ) → down < 3 → right < 3 → ((down ≡ 1) × (right ≡ 1) → ⊥) → bordered ws v h (y + down) (x + right) ≡ 0)
       → litRule (around ws v h y x) ≡ 0
   lone-goes-out f =
       not-lit (λ e. let b = new-exactly .0 e .1 in absurd (omega (arith, f (b .down) (b .right) (b .down-near) (b .right-near) (b .other), b .lit)))

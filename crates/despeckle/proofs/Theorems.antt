@@ -12,10 +12,10 @@ use Rattle.bits.specs.Bit.{bit}
 use Rattle.bits.proofs.Word.{ext, digit, bit-ofBits, ofBits-lt, bit-of-zero, bit-ones}
 use Rattle.bits.proofs.UpTo.{length-upTo, getD-upTo}
 use Rattle.bits.proofs.Refusals.{left-done}
-use Rattle.despeckle.specs.Plane.{pixel, framed, around, litRule, newWord, despeckled}
+use Rattle.despeckle.specs.Plane.{pixel, bordered, around, litRule, newWord, despeckled}
 use Rattle.despeckle.specs.Beside.{LitBeside}
 use Rattle.despeckle.specs.Calls.{despeckleAnswer, despeckledOut}
-use Rattle.despeckle.proofs.Frame.{index-lt, pixel-within, framed-lit}
+use Rattle.despeckle.proofs.Border.{index-lt, pixel-within, bordered-lit}
 use Rattle.despeckle.proofs.Sliding.{rule-lt}
 use Rattle.despeckle.proofs.Rows.{new-word}
 use Rattle.despeckle.proofs.Rule.{own-pixel, new-exactly, dark-stays}
@@ -99,7 +99,7 @@ module _ (v h : ℕ) where
       one : (y x : ℕ) → y < h → x < 64 * v → pixel lit v h y x ≡ 1
       one y x a b = pixel-alike (2 ^ 64 - 1) y x a b ∙ bit-ones 64 (63 - x % 64) (omega arith)
 
-      in-row : (y x right : ℕ) → right < 3 → (right ≡ 1 → ⊥) → framed lit v h (y + 1) (x + right) ≡ 1 → LitBeside lit v h y x
+      in-row : (y x right : ℕ) → right < 3 → (right ≡ 1 → ⊥) → bordered lit v h (y + 1) (x + right) ≡ 1 → LitBeside lit v h y x
       in-row y x right l n e = record {
         down = 1;
         right = right;
@@ -113,11 +113,11 @@ module _ (v h : ℕ) where
       beside : (y x : ℕ) → y < h → x < 64 * v → Dec (x + 1 < 64 * v) → LitBeside lit v h y x
       beside y x a b (yes l) =
           let e : x + 2 ≡ x + 1 + 1 = omega arith in
-          in-row y x 2 (omega arith) (λ z. absurd (omega (arith, z))) (ap (framed lit v h (y + 1)) e ∙ own-pixel lit v h y (x + 1) ∙ one y (x + 1) a l)
+          in-row y x 2 (omega arith) (λ z. absurd (omega (arith, z))) (ap (bordered lit v h (y + 1)) e ∙ own-pixel lit v h y (x + 1) ∙ one y (x + 1) a l)
       beside y x a b (no l) =
           let e : x + 0 ≡ x - 1 + 1 = omega arith in
           in-row y x 0 (omega arith) (λ z. absurd (omega (arith, z)))
-          (ap (framed lit v h (y + 1)) e ∙ own-pixel lit v h y (x - 1) ∙ one y (x - 1) a (omega arith))
+          (ap (bordered lit v h (y + 1)) e ∙ own-pixel lit v h y (x - 1) ∙ one y (x - 1) a (omega arith))
 
 -- Twice is once: a pixel that stays has a lit one beside it, which has that pixel beside it and so stays too.
 module _ (ws : List ℕ) (v h : ℕ) where
@@ -130,7 +130,7 @@ module _ (ws : List ℕ) (v h : ℕ) where
   -- the pixel beside one that stays stays
   beside-stays : (y x : ℕ) → pixel ws v h y x ≡ 1 → LitBeside ws v h y x → LitBeside once v h y x
   beside-stays y x e b =
-      let f = framed-lit ws v h (y + b .down) (x + b .right) (b .lit) in
+      let f = bordered-lit ws v h (y + b .down) (x + b .right) (b .lit) in
       let u = f .0 in
       let l = f .1 in
       let r : u + (2 - b .down) ≡ y + 1 = omega (arith, f .2, b .down-near) in
@@ -141,7 +141,7 @@ module _ (ws : List ℕ) (v h : ℕ) where
         down-near = omega arith;
         right-near = omega arith;
         other = λ q. b .other (omega (arith, q .0, b .down-near), omega (arith, q .1, b .right-near));
-        lit = ap₂ (framed ws v h) r c ∙ own-pixel ws v h y x ∙ e;
+        lit = ap₂ (bordered ws v h) r c ∙ own-pixel ws v h y x ∙ e;
       }
       in
       record {
@@ -151,7 +151,7 @@ module _ (ws : List ℕ) (v h : ℕ) where
         right-near = b .right-near;
         other = b .other;
         lit =
-            ap₂ (framed once v h) (f .2) (f .3)
+            ap₂ (bordered once v h) (f .2) (f .3)
             ∙ own-pixel once v h u l
             ∙ after u l (f .4) (f .5)
             ∙ new-exactly ws v h u l .1 (f .6, back);

@@ -12,18 +12,18 @@ unfoldable pub pixel : List ℕ → ℕ → ℕ → ℕ → ℕ → ℕ
 pixel ws v h y x = cond (ltb y h && ltb x (64 * v)) (bit (getD ws (y * v + x / 64) 0) (63 - x % 64)) 0
 
 -- the same with rows and columns counted from 1: so those just outside the first have a number too, 0
-unfoldable pub framed : List ℕ → ℕ → ℕ → ℕ → ℕ → ℕ
-framed ws v h zero x = 0
-framed ws v h (suc y) zero = 0
-framed ws v h (suc y) (suc x) = pixel ws v h y x
+unfoldable pub bordered : List ℕ → ℕ → ℕ → ℕ → ℕ → ℕ
+bordered ws v h zero x = 0
+bordered ws v h (suc y) zero = 0
+bordered ws v h (suc y) (suc x) = pixel ws v h y x
 
 -- the number of the three by three pixels of g from row y and column x on: "The row above fills bits 8 to 6 from the left, the own row 5 to 3, the row below 2 to 0"
 unfoldable pub window : (ℕ → ℕ → ℕ) → ℕ → ℕ → ℕ
 window g y x = ofBits 9 (λ i. g (y + 2 - i / 3) (x + 2 - i % 3))
 
--- "Each dot's three by three surroundings make a number from 0 to 511": row y - 1 is row y in the frame
+-- "Each dot's three by three surroundings make a number from 0 to 511": row y - 1 is row y in the border
 abbrev pub around : List ℕ → ℕ → ℕ → ℕ → ℕ → ℕ
-around ws v h y x = window (framed ws v h) y x
+around ws v h y x = window (bordered ws v h) y x
 
 -- "the new dot is lit exactly if bit 4 and at least one other bit are one": bit 4, and of the nine more than one
 unfoldable pub litRule : ℕ → ℕ

@@ -5,7 +5,7 @@ ghost use Prim.Native.Nat.{ℕ, _+_, _-_, _*_, _%_, _^_, _<_, _≤_};
 ghost use mathlib.Core.List.{List};
 ghost use lib.ListN.{length};
 ghost use Rattle.bits.specs.Bit.{bit, upTo, overwritten};
-ghost use Rattle.despeckle.specs.Plane.{framed, around, litRule, newWord};
+ghost use Rattle.despeckle.specs.Plane.{bordered, around, litRule, newWord};
 ghost use Rattle.despeckle.specs.Window.{IsTable, IsPlane, columnOf, Slides, Passes};
 ghost use Rattle.despeckle.specs.Calls.{planeRefusal, despeckleAnswer, despeckledOut};
 
@@ -81,7 +81,7 @@ fn slide_word(table: &[u8; 512], start: u64, above: u64, own: u64, below: u64) -
 // internal: a plane of `rows` times `words` words. Word `at` of a row counted from 1; dark outside the plane.
 fn word_at(plane: &[u64], rows: usize, words: usize, row: usize, at: usize) -> u64
     requires { ⌜ IsPlane (now plane) rows words ⌝ }
-    ensures { λ r. ⌜ ((k : ℕ) → k < 64 → bit r k ≡ framed (now (plane .entry)) words rows row (64 * at + (64 - k))) ⌝ }
+    ensures { λ r. ⌜ ((k : ℕ) → k < 64 → bit r k ≡ bordered (now (plane .entry)) words rows row (64 * at + (64 - k))) ⌝ }
 {
     if row == 0 {
         return DARK;
@@ -98,7 +98,7 @@ fn word_at(plane: &[u64], rows: usize, words: usize, row: usize, at: usize) -> u
 // internal: such a plane. The same word moved on by two pixels, the next word's first two at its end.
 fn ahead(plane: &[u64], rows: usize, words: usize, row: usize, at: usize) -> u64
     requires { ⌜ IsPlane (now plane) rows words × (at < 2048) ⌝ }
-    ensures { λ r. ⌜ ((k : ℕ) → k < 64 → bit r k ≡ framed (now (plane .entry)) words rows row (64 * at + (66 - k))) ⌝ }
+    ensures { λ r. ⌜ ((k : ℕ) → k < 64 → bit r k ≡ bordered (now (plane .entry)) words rows row (64 * at + (66 - k))) ⌝ }
 {
     (word_at(plane, rows, words, row, at) << 2) | (word_at(plane, rows, words, row, at + 1) >> 62)
 }

@@ -4,7 +4,3 @@ pub mod StatusBits
 pub mod BytesKept
 pub mod Remainders
 pub mod Ends
-pub mod Theorems
-pub mod Interrupts
-pub mod Waiting
-pub mod Continuing

@@ -1,11 +1,13 @@
 -- A run as one goes through its operations. Assumes nothing.
-use mathlib.Core.Path.{_≡_, refl, ap}
+use mathlib.Core.Path.{_≡_, refl, sym, _∙_, ap}
 use mathlib.Core.Bool.{Bool, true, false, cond}
-use mathlib.Core.List.{List, [], _∷_}
-use Prim.Native.Nat.{ℕ, suc, _+_, _-_, _<_, _≤_}
+use mathlib.Core.List.{List, [], _∷_, _++_}
+use Prim.Native.Nat.{ℕ, zero, suc, _+_, _-_, _<_, _≤_}
 use native.Mathlib.Omega.{arith}
+use native.Mathlib.Decide.{decLt}
 use lib.Dec.{leb}
-use lib.ListN.{length, take}
+use lib.ListN.{length, take, drop}
+use lib.Seq.{take-add}
 use borrow.Author.Tests.{le-leb, lt-leb}
 use Rattle.unit.specs.declared.Registers.{Registers}
 use Rattle.unit.specs.Operation.{cyclesOf, Operation, stepBy}
@@ -29,6 +31,77 @@ ran-le left (o ∷ os) = by-test (leb (cyclesOf (o .0)) left) (ran-le (left - cy
     by-test : (b : Bool) → ranOf (left - cyclesOf (o .0)) os ≤ length os → cond b (suc (ranOf (left - cyclesOf (o .0)) os)) 0 ≤ suc (length os)
     by-test true h = omega arith
     by-test false h = omega arith
+
+-- all operations are run if their sum fits
+pub ran-ample : (left : ℕ) (os : List Operation) → sumOf os ≤ left → ranOf left os ≡ length os
+unfolding sumOf ranOf
+ran-ample left [] h = refl
+ran-ample left (o ∷ os) h =
+    ran-fits left o os (omega arith) ∙ ap suc (ran-ample (left - cyclesOf (o .0)) os (omega arith))
+
+-- the operations run fit
+pub ran-within : (left : ℕ) (os : List Operation) → sumOf (take (ranOf left os) os) ≤ left
+unfolding sumOf ranOf
+ran-within left [] = omega arith
+ran-within left (o ∷ os) = by-test (decLt left (cyclesOf (o .0))) (ran-within (left - cyclesOf (o .0)) os)
+  where
+    by-test : Dec (left < cyclesOf (o .0)) → sumOf (take (ranOf (left - cyclesOf (o .0)) os) os) ≤ left - cyclesOf (o .0)
+        → sumOf (take (ranOf left (o ∷ os)) (o ∷ os)) ≤ left
+    by-test (yes h) r = rw (ran-stops left o os h) (omega arith)
+    by-test (no h) r = rw (ran-fits left o os (omega arith)) (omega arith)
+
+-- and the next one, if there is one, does not: "an operation is left and does not fit"
+pub ran-next : (left : ℕ) (os : List Operation) → ranOf left os < length os → left < sumOf (take (suc (ranOf left os)) os)
+unfolding sumOf ranOf
+ran-next left [] h = absurd (omega arith)
+ran-next left (o ∷ os) h = by-test (decLt left (cyclesOf (o .0))) (ran-next (left - cyclesOf (o .0)) os)
+  where
+    by-test : Dec (left < cyclesOf (o .0))
+        → (ranOf (left - cyclesOf (o .0)) os < length os → left - cyclesOf (o .0) < sumOf (take (suc (ranOf (left - cyclesOf (o .0)) os)) os))
+        → left < sumOf (take (suc (ranOf left (o ∷ os))) (o ∷ os))
+    by-test (yes l) r = rw (ran-stops left o os l) (omega arith)
+    by-test (no l) r =
+        let e = ran-fits left o os (omega arith) in
+        let s = r (omega (arith, e)) in
+        rw e (omega (arith, s))
+
+-- one list after another
+pub sum-append : (os ps : List Operation) → sumOf (os ++ ps) ≡ sumOf os + sumOf ps
+unfolding sumOf
+sum-append [] ps = omega arith
+sum-append (o ∷ os) ps = let e = sum-append os ps in omega (arith, e)
+
+pub steps-append : (k : Registers) (os ps : List Operation) → stepsOf k (os ++ ps) ≡ stepsOf (stepsOf k os) ps
+unfolding stepsOf
+steps-append k [] ps = refl
+steps-append k (o ∷ os) ps = steps-append (stepBy k o) os ps
+
+-- Two turns in one: the first n operations cost what they cost, and the others are within what is left
+pub ran-more : (n r : ℕ) (os : List Operation) → n ≤ length os → ranOf (sumOf (take n os) + r) os ≡ n + ranOf r (drop n os)
+unfolding sumOf
+ran-more zero r os h =
+    let e : 0 + r ≡ r = omega arith in
+    let f : ranOf r os ≡ 0 + ranOf r os = omega arith in
+    ap (λ (m : ℕ). ranOf m os) e ∙ f
+ran-more (suc n) r [] h = absurd (omega arith)
+ran-more (suc n) r (o ∷ os) h =
+    let c = cyclesOf (o .0) in
+    let s = sumOf (take n os) in
+    let e : c + s + r - c ≡ s + r = omega arith in
+    let i = ran-more n r os (omega arith) in
+    ran-fits (c + s + r) o os (omega arith) ∙ ap (λ (m : ℕ). suc (ranOf m os)) e ∙ omega (arith, i)
+
+-- a turn, and from where it stopped another: one turn, with what the first used and the second is given
+pub turn-more : (k : Registers) (os : List Operation) (budget more : ℕ) → let t = turnOf k os budget in let u = turnOf (t .1) (drop (t .0 .ran) os) more in
+    reaching (record { ran = t .0 .ran + u .0 .ran; cycles = t .0 .cycles + u .0 .cycles }) (u .1) ≡ turnOf k os (t .0 .cycles + more)
+turn-more k os budget more =
+    let n = ranOf budget os in
+    let m = ranOf more (drop n os) in
+    let e = ran-more n more os (ran-le budget os) in
+    let a = take-add n m os in
+    let s = sym (sum-append (take n os) (take m (drop n os))) ∙ ap sumOf (sym a) in
+    let j = sym (steps-append k (take n os) (take m (drop n os))) ∙ ap (stepsOf k) (sym a) in
+    (λ i. reaching (record { ran = n + m; cycles = s i }) (j i)) ∙ ap (λ (x : ℕ). reaching (record { ran = x; cycles = sumOf (take x os) }) (stepsOf k (take x os))) (sym e)
 
 -- After n operations of a run on k by os, with `rest` still to come: the registers are j and `left` is left of the budget, and to go on from there comes to the whole run.
 pub record Going (k : Registers) (os : List Operation) (budget : ℕ) (j : Registers) (left n : ℕ) (rest : List Operation) : Type 0 where

@@ -1,4 +1,2 @@
 pub mod StatusByte
 pub mod Run
-pub mod BankCalls
-pub mod Continued

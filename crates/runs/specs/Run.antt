@@ -115,6 +115,10 @@ outcomeOf k bytes t =
     let n = t .0 .ran in
     leaving (record { refusal = 0; «end» = endOf n (operationsOf bytes); ran = n; cycles = t .0 .cycles }) (endedOf (withRegisters k (t .1)) bytes n)
 
+-- a list within a budget, not refused
+abbrev pub carriedOut : Bank → List ℕ → ℕ → Outcome × Bank
+carriedOut k bytes budget = outcomeOf k bytes (turnOf (k .registers) (operationsOf bytes) budget)
+
 -- Req 09: "A refused run thus touches status bit 2 and no other register"
 abbrev pub refusedOf : Bank → ℕ → Outcome × Bank
 refusedOf k r = leaving (record { refusal = r; «end» = 0; ran = 0; cycles = 0 }) (noted k 0)
@@ -122,9 +126,7 @@ refusedOf k r = leaving (record { refusal = r; «end» = 0; ran = 0; cycles = 0 
 -- a run, new or continued
 unfoldable pub performOf : Bool → Bank → List ℕ → ℕ → Outcome × Bank
 performOf other k bytes budget =
-    cond (eqb (runRefusal other bytes) 0)
-    (outcomeOf k bytes (turnOf (k .registers) (operationsOf bytes) budget))
-    (refusedOf k (runRefusal other bytes))
+    cond (eqb (runRefusal other bytes) 0) (carriedOut k bytes budget) (refusedOf k (runRefusal other bytes))
 
 -- A new run on the bank: 14, "another run waits"
 abbrev pub runOf : Bank → List ℕ → ℕ → Outcome × Bank

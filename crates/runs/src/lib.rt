@@ -7,7 +7,7 @@ ghost use lib.ListN.{length, take, drop};
 ghost use Rattle.unit.specs.Bank.{fresh, withEnable, bankOf, leaving};
 ghost use Rattle.unit.specs.Lent.{Sized, registersOf};
 ghost use Rattle.runs.specs.StatusByte.{withBit, statusOf, acknowledgeOf, interruptOf};
-ghost use Rattle.runs.specs.Run.{operationsOf, operationsRefusal, runRefusal, reaching, turnOf, endOf, statusBit, markedBy, withMarks, marksOf, endedOf, performOf, runOf, same, isRemainder, continueOf, dropOf};
+ghost use Rattle.runs.specs.Run.{operationsOf, operationsRefusal, runRefusal, reaching, turnOf, endOf, statusBit, markedBy, withMarks, marksOf, endedOf, carriedOut, performOf, runOf, same, isRemainder, continueOf, dropOf};
 
 // How a run ended, if it was carried out.
 const DONE: u8 = 1;
@@ -45,9 +45,9 @@ pub struct Marks {
 }
 
 // A run's answer, and the marks after it.
-struct Performed {
-    run: Outcome,
-    marks: Marks,
+pub struct Performed {
+    pub run: Outcome,
+    pub marks: Marks,
 }
 
 // A run's answer, and the registers after it.
@@ -80,7 +80,7 @@ fn operations_refusal(other: bool, ops: &[u8]) -> u8
 }
 
 // The lowest refusal of a run's list; 0 if it is carried out.
-fn run_refusal(other: bool, ops: &[u8]) -> u8
+pub fn run_refusal(other: bool, ops: &[u8]) -> u8
     ensures { λ r. ⌜ r ≡ runRefusal other (now (ops .entry)) ⌝ }
 {
     if ops.len() % 4 != 0 {
@@ -93,7 +93,7 @@ fn run_refusal(other: bool, ops: &[u8]) -> u8
 }
 
 // internal: the words of the registers, and whole operations, at most 1,024. They are carried out while the next one's cycles fit in what is left of the budget.
-pub fn go_on(
+fn go_on(
     general: &mut [u64; 16],
     b: &mut [u64; 3],
     ib: &mut [u64; 3],
@@ -153,7 +153,7 @@ fn status_mark(end: u8) -> u8
 }
 
 // The status byte with the bit of a run's end set.
-fn status_after(status: u8, end: u8) -> u8
+pub fn status_after(status: u8, end: u8) -> u8
     ensures { λ r. ⌜ r ≡ withBit status (statusBit «end») ⌝ }
 {
     let mark = status_mark(end);
@@ -174,7 +174,7 @@ fn remember(list: &mut [u8; 4096], rest: &[u8])
 
 // internal: a bank's marks and list, and whole operations, at most 1,024, of which `ran` have been run on it. The end of their run: the bank waits for the others, or
 // no longer, and its status has the end's bit.
-pub fn finish(marks: Marks, list: &mut [u8; 4096], ops: &[u8], ran: u32) -> Marks
+fn finish(marks: Marks, list: &mut [u8; 4096], ops: &[u8], ran: u32) -> Marks
     requires { ⌜ (length (now list) ≡ 4096) × (length (now ops) % 4 ≡ 0) × (length (now ops) ≤ 4096) × (4 * ran ≤ length (now ops)) ⌝ }
     ensures { λ r. ⌜ bankOf (withMarks fresh r) (now (list .exit)) ≡ endedOf (bankOf (withMarks fresh marks) (now (list .entry))) (now (ops .entry)) ran ⌝ }
 {
@@ -210,6 +210,34 @@ fn turned_back(marks: Marks, number: u8) -> Performed
     }
 }
 
+// internal: a bank by its words, marks and list, and whole operations, at most 1,024. A run of them on it.
+pub fn carry_out(
+    general: &mut [u64; 16],
+    b: &mut [u64; 3],
+    ib: &mut [u64; 3],
+    marks: Marks,
+    list: &mut [u8; 4096],
+    ops: &[u8],
+    budget: u32,
+) -> Performed
+    requires { ⌜ Sized (now general) (now b) (now ib) × (length (now list) ≡ 4096) × (length (now ops) % 4 ≡ 0) × (length (now ops) ≤ 4096) ⌝ }
+    ensures { λ r. ⌜ leaving (r .run) (bankOf (withMarks (registersOf (now (general .exit)) (now (b .exit)) (now (ib .exit))) (r .marks)) (now (list .exit)))
+        ≡ carriedOut (bankOf (withMarks (registersOf (now (general .entry)) (now (b .entry)) (now (ib .entry))) marks) (now (list .entry))) (now (ops .entry)) budget ⌝ }
+{
+    let turn = go_on(general, b, ib, ops, budget);
+    let end = end_of(ops, turn.ran);
+    let after = finish(marks, list, ops, turn.ran);
+    Performed {
+        run: Outcome {
+            refusal: 0,
+            end,
+            ran: turn.ran,
+            cycles: turn.cycles,
+        },
+        marks: after,
+    }
+}
+
 // internal: a bank by its words, marks and list. A run of the operations on it, unless it is refused: for the list lent, or since `other` says so.
 fn perform(
     other: bool,
@@ -229,22 +257,11 @@ fn perform(
     if refused != 0 {
         return turned_back(marks, refused);
     }
-    let turn = go_on(general, b, ib, ops, budget);
-    let end = end_of(ops, turn.ran);
-    let after = finish(marks, list, ops, turn.ran);
-    Performed {
-        run: Outcome {
-            refusal: 0,
-            end,
-            ran: turn.ran,
-            cycles: turn.cycles,
-        },
-        marks: after,
-    }
+    carry_out(general, b, ib, marks, list, ops, budget)
 }
 
 // The marks of registers.
-fn marks_of(registers: unit::Registers) -> Marks
+pub fn marks_of(registers: unit::Registers) -> Marks
     ensures { λ r. ⌜ r ≡ marksOf registers ⌝ }
 {
     Marks {
@@ -256,7 +273,7 @@ fn marks_of(registers: unit::Registers) -> Marks
 }
 
 // A run's answer with the registers of these words.
-fn ran_at(after: Performed, general: [u64; 16], b: [u64; 3], ib: [u64; 3]) -> Ran
+pub fn ran_at(after: Performed, general: [u64; 16], b: [u64; 3], ib: [u64; 3]) -> Ran
     ensures { λ r. ⌜ r ≡ record { run = after .run; registers = withMarks (registersOf general b ib) (after .marks) } ⌝ }
 {
     let run = after.run;
@@ -314,7 +331,7 @@ fn starts_with(list: &[u8; 4096], ops: &[u8]) -> bool
 }
 
 // internal: a bank's list. Whether the operations are the remainder that the bank remembers.
-fn is_remainder(left: u32, list: &[u8; 4096], ops: &[u8]) -> bool
+pub fn is_remainder(left: u32, list: &[u8; 4096], ops: &[u8]) -> bool
     requires { ⌜ length (now list) ≡ 4096 ⌝ }
     ensures { λ r. ⌜ r ≡ isRemainder left (now (list .entry)) (now (ops .entry)) ⌝ }
 {

@@ -329,7 +329,7 @@ module _ {M : Type 1} (𝓤 : URA M) (H : Heap 𝓤) where
   rooms [] bs = emp 𝓤
   rooms (p ∷ ps) bs = sep 𝓤 (H .room (p .0) (bs .0) zero) (sep 𝓤 (H .dies (p .0) (bs .0)) (rooms ps (bs .1)))
 
-  abbrev cells : (ps : List (Ty × Val)) → Blocks ps → SProp 𝓤
+  abbrev pub cells : (ps : List (Ty × Val)) → Blocks ps → SProp 𝓤
   cells [] bs = emp 𝓤
   cells (p ∷ ps) bs = sep 𝓤 (H .at fullShare (p .0) (bs .0) zero (p .1)) (sep 𝓤 (H .dies (p .0) (bs .0)) (cells ps (bs .1)))
 
@@ -364,26 +364,26 @@ module _ {M : Type 1} {𝓤 : URA M} {H : Heap 𝓤} {A : Atoms 𝓤} {K : Type 
             by ! (via 𝓤 (⋆ 𝓤 H A Γ) (subst (λ (j : Item 𝓤). ent 𝓤 (sep 𝓤 (mean 𝓤 H A j) rest) (⋆ 𝓤 H A Γ)) e (unpull 𝓤 H A n Γ)) k));
       }
 
-  alloc-all : {Γ : List (Item 𝓤)} → K → (ps : List (Ty × Val)) {ls : List Local} {Kt : Env 𝓤 H → Goal 𝓤 H}
+  pub alloc-all : {Γ : List (Item 𝓤)} → K → (ps : List (Ty × Val)) {ls : List Local} {Kt : Env 𝓤 H → Goal 𝓤 H}
       → ((bs : Blocks ps) → Seq K W (raw (rooms 𝓤 H ps bs) ∷ Γ) (allocs ls (λ E. Kt (envOf 𝓤 H ps bs E)))) → Seq K W Γ (allocs (localsOf ps ls) Kt)
   alloc-all t [] k = use0 W (raw (emp 𝓤)) (id⊢ 𝓤 (emp 𝓤)) $ k tt
   alloc-all t (p ∷ ps) k =
       alloc1 t (λ b. alloc-all t ps (λ bs. move t (1 ∷ 2 ∷ 0 ∷ []) $ use3 W {i = ‵ (froom (p .0) b zero)} {j = ‵ (fdies (p .0) b)} {l = raw (rooms 𝓤 H ps bs)} (raw (rooms 𝓤 H (p ∷ ps) (b, bs))) (id⊢ 𝓤 _) $ k (b, bs)))
 
-  pass-all : {Γ : List (Item 𝓤)} → K → (ps : List (Ty × Val)) (bs : Blocks ps) → Typeds ps → (E : Env 𝓤 H) {G : Goal 𝓤 H}
+  pub pass-all : {Γ : List (Item 𝓤)} → K → (ps : List (Ty × Val)) (bs : Blocks ps) → Typeds ps → (E : Env 𝓤 H) {G : Goal 𝓤 H}
       → Seq K W (raw (cells 𝓤 H ps bs) ∷ Γ) G → Seq K W (raw (rooms 𝓤 H ps bs) ∷ Γ) (passes (envOf 𝓤 H ps bs E) (valsOf ps) G)
   pass-all t [] bs ty E k = pass0 t $ k
   pass-all t (p ∷ ps) bs ty E k =
       use1 W (‵ (froom (p .0) (bs .0) zero) ⊛ ‵ (fdies (p .0) (bs .0)) ⊛ raw (rooms 𝓤 H ps (bs .1))) (id⊢ 𝓤 _) $ split3 t $ pass1 t (init t 0 refl (ty .0)) $ move t (2 ∷ 0 ∷ 1 ∷ []) $
       pass-all t ps (bs .1) (ty .1) E (move t (1 ∷ 2 ∷ 0 ∷ []) $ use3 W {i = ‵ (fat fullShare (p .0) (bs .0) zero (p .1))} {j = ‵ (fdies (p .0) (bs .0))} {l = raw (cells 𝓤 H ps (bs .1))} (raw (cells 𝓤 H (p ∷ ps) bs)) (id⊢ 𝓤 _) $ k)
 
-  free-all : {Γ : List (Item 𝓤)} → K → (ps : List (Ty × Val)) (bs : Blocks ps) (E : Env 𝓤 H) {G : Goal 𝓤 H} → Seq K W Γ (frees E G) → Seq K W (raw (cells 𝓤 H ps bs) ∷ Γ) (frees (envOf 𝓤 H ps bs E) G)
+  pub free-all : {Γ : List (Item 𝓤)} → K → (ps : List (Ty × Val)) (bs : Blocks ps) (E : Env 𝓤 H) {G : Goal 𝓤 H} → Seq K W Γ (frees E G) → Seq K W (raw (cells 𝓤 H ps bs) ∷ Γ) (frees (envOf 𝓤 H ps bs E) G)
   free-all t [] bs E k = drop t $ k
   free-all t (p ∷ ps) bs E k =
       use1 W (‵ (fat fullShare (p .0) (bs .0) zero (p .1)) ⊛ ‵ (fdies (p .0) (bs .0)) ⊛ raw (cells 𝓤 H ps (bs .1))) (id⊢ 𝓤 _) $ split3 t $ gone t $ free-all t ps (bs .1) E k
 
   -- the arguments are read, those from number k on, out of the entry n
-  read-all : {Γ : List (Item 𝓤)} → K → (n : ℕ) (X : SProp 𝓤) → nth 𝓤 H A n Γ ≡ raw X → {E : Env 𝓤 H} (k : ℕ) (ps : List (Ty × Val)) (bs : Blocks ps) → Spots 𝓤 H E k ps bs
+  pub read-all : {Γ : List (Item 𝓤)} → K → (n : ℕ) (X : SProp 𝓤) → nth 𝓤 H A n Γ ≡ raw X → {E : Env 𝓤 H} (k : ℕ) (ps : List (Ty × Val)) (bs : Blocks ps) → Spots 𝓤 H E k ps bs
       → ((τ : Ty) (b : ℕ) (v : Val) → Within 𝓤 H (cells 𝓤 H ps bs) τ b v → Within 𝓤 H X τ b v) → Opds K W Γ E (copiesFrom k ps) (valsOf ps)
   read-all t n X e k [] bs at up = no-more t
   read-all t n X e k (p ∷ ps) bs at up =

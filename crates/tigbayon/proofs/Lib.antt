@@ -1,3 +1,4 @@
 pub mod Lent
 pub mod LentBytes
 pub mod LentList
+pub mod LentFrame

@@ -4,13 +4,14 @@
 // and what the call leaves is stored back; its list is lent on to a run.
 ghost use mathlib.Core.Path.{_≡_};
 ghost use mathlib.Core.Bool.{true, false};
-ghost use mathlib.Core.List.{reverse};
+ghost use mathlib.Core.List.{[], _∷_, reverse};
 ghost use Rattle.network.specs.Stage.{falling, rising, butterflyOf, inverseOf};
 ghost use Rattle.network.specs.Word.{exchangesOf};
 ghost use Rattle.network.specs.Calls.{networkAnswer, prepareAnswer, decodeAnswer};
 ghost use Rattle.routing.specs.Lists.{butterflyFits, butterflyAlone, inverseFits, inverseAlone};
 ghost use Rattle.runs.specs.StatusByte.{statusOf, enableLent, acknowledgeLent, interruptOf};
 ghost use Rattle.runs.specs.Run.{runOf, continueOf, dropLent};
+ghost use Rattle.frame.specs.Frame.{broughtBy, leavingAll, frameOf};
 ghost use Rattle.unit.specs.Bank.{leaving};
 ghost use Rattle.unit.specs.Calls.{operateLent, readOf, writeLent};
 ghost use Rattle.pack.specs.Calls.{packAnswer, packedOut, unpackAnswer, unpackedOut};
@@ -282,6 +283,47 @@ pub extern "C" fn tb_continue(bank: &mut unit::Bank, ops: &[u8], budget: u32) ->
     let after = runs::continue_run(bank.registers, &mut bank.list, ops, budget);
     bank.registers = after.registers;
     after.run
+}
+
+// Four channels in one frame, each on a lent bank.
+#[no_mangle]
+pub extern "C" fn tb_frame(
+    bank0: &mut unit::Bank,
+    bank1: &mut unit::Bank,
+    bank2: &mut unit::Bank,
+    bank3: &mut unit::Bank,
+    list0: &[u8],
+    list1: &[u8],
+    list2: &[u8],
+    list3: &[u8],
+    guarantees: &[u32; 4],
+    cycles: u32,
+) -> frame::Frame
+    ensures { λ r. ⌜ leavingAll r (now (bank0 .exit) ∷ now (bank1 .exit) ∷ now (bank2 .exit) ∷ now (bank3 .exit) ∷ [])
+        ≡ frameOf (broughtBy (now (bank0 .entry) ∷ now (bank1 .entry) ∷ now (bank2 .entry) ∷ now (bank3 .entry) ∷ [])
+        (now (list0 .entry) ∷ now (list1 .entry) ∷ now (list2 .entry) ∷ now (list3 .entry) ∷ []) (now (guarantees .entry))) cycles ⌝ }
+{
+    let after = frame::run_frame(
+        bank0.registers,
+        bank1.registers,
+        bank2.registers,
+        bank3.registers,
+        &mut bank0.list,
+        &mut bank1.list,
+        &mut bank2.list,
+        &mut bank3.list,
+        list0,
+        list1,
+        list2,
+        list3,
+        guarantees,
+        cycles,
+    );
+    bank0.registers = after.registers0;
+    bank1.registers = after.registers1;
+    bank2.registers = after.registers2;
+    bank3.registers = after.registers3;
+    after.frame
 }
 
 // A lent bank that no longer waits.

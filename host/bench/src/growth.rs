@@ -1,6 +1,7 @@
 //! Every call of the library on random inputs of several sizes, and runs of each
 //! kind of operation.
 
+use crate::frames::{self, Channels};
 use crate::masks::{Mask, OfMask};
 use crate::networks::{controls_and_word, random_controls, Network, Passage, Prepare};
 use crate::packing::{Packing, ALL_MARKED, COLOUR, PACK, UNPACK};
@@ -45,7 +46,7 @@ type BySize = (&'static str, fn(usize) -> Calls);
 const CALL: &str = "call";
 
 /// All calls, by what they may grow with.
-pub const GROWTHS: [Growth; 7] = [
+pub const GROWTHS: [Growth; 8] = [
     Growth {
         name: "by width",
         sizes: &[8, 16, 32, 64],
@@ -146,6 +147,38 @@ pub const GROWTHS: [Growth; 7] = [
         calls: &[("run_in_turns", |turns| {
             worked(OPERATIONS, turns as u32, |job| job.in_turns(LIBRARY))
         })],
+    },
+    // Each frame beside the same by runs.
+    Growth {
+        name: "frame by length",
+        sizes: &[0, 1, 4, 16, 64, 256, 1_024],
+        each: CALL,
+        calls: &[
+            ("frame", |operations| {
+                framed(operations, Channels::ample, Channels::in_a_frame)
+            }),
+            ("frame_by_runs", |operations| {
+                framed(operations, Channels::ample, Channels::in_runs)
+            }),
+            ("frame_continued", |operations| {
+                framed(operations, Channels::continued, Channels::in_a_frame)
+            }),
+            ("frame_continued_by_runs", |operations| {
+                framed(operations, Channels::continued, Channels::in_runs)
+            }),
+            ("frame_halved", |operations| {
+                framed(operations, Channels::halved, Channels::in_a_frame)
+            }),
+            ("frame_halved_by_runs", |operations| {
+                framed(operations, Channels::halved, Channels::in_turns)
+            }),
+            ("frame_from_rest", |operations| {
+                framed(operations, Channels::from_rest, Channels::in_a_frame)
+            }),
+            ("frame_from_rest_by_runs", |operations| {
+                framed(operations, Channels::from_rest, Channels::in_turns)
+            }),
+        ],
     },
     Growth {
         name: "run by kind",
@@ -340,6 +373,12 @@ fn reading<A>(call: impl Fn(&TbBank) -> A + 'static) -> Calls {
 fn worked<A>(operations: usize, turns: u32, call: impl Fn(&Job) -> A + 'static) -> Calls {
     let make = |random: &mut Random| Job::of(random, operations, turns);
     calls(operations.max(64), make, call)
+}
+
+/// A call of four lists of so many operations, in a frame or by runs.
+fn framed(operations: usize, make: frames::Make, call: frames::Call) -> Calls {
+    let make = |random: &mut Random| make(random, operations);
+    calls(frames::parts(operations), make, call)
 }
 
 /// So many operations, in bytes.

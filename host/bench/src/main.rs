@@ -16,6 +16,7 @@
 mod bmi2;
 mod contest;
 mod decoding;
+mod frames;
 mod groups;
 mod growth;
 mod masks;
@@ -42,7 +43,7 @@ const WIDTH: u32 = 64;
 /// A contest runs the call of its name.
 type Bench = (&'static str, fn(&str));
 
-const CONTESTS: [Bench; 31] = [
+const CONTESTS: [Bench; 32] = [
     ("butterfly", networks::butterfly),
     ("inverse", networks::inverse),
     ("prepare_butterfly", networks::prepare_butterfly),
@@ -74,6 +75,7 @@ const CONTESTS: [Bench; 31] = [
     ("despeckle", pixels::despeckle),
     ("run", waiting::run),
     ("continue", waiting::continue_run),
+    ("frame", frames::frame),
 ];
 
 const BY_MASK: &str = "by mask";

@@ -10,7 +10,7 @@ use tigbayon::{Refusal, TbBank, TbRun};
 pub type RunCall = fn(&mut TbBank, &[u8], u32) -> TbRun;
 
 /// How a run ends that is not refused, which is also its bit of the status byte.
-const DONE: u8 = 1;
+pub const DONE: u8 = 1;
 /// Likewise.
 pub const SPENT: u8 = 2;
 /// The status bit of a refused run.

@@ -2,6 +2,7 @@
 
 mod compare;
 mod drawn;
+mod frame;
 mod masks;
 mod networks;
 mod packing;
@@ -16,7 +17,7 @@ use crate::command::Command;
 use crate::failure::Failure;
 
 /// All of them, in the order of the help.
-pub const COMMANDS: [&Command; 20] = [
+pub const COMMANDS: [&Command; 21] = [
     &masks::GATHER,
     &masks::SCATTER,
     &masks::GROUP,
@@ -37,6 +38,7 @@ pub const COMMANDS: [&Command; 20] = [
     &subwords::EXCHANGE,
     &pixels::DESPECKLE,
     &unit::RUN,
+    &frame::FRAME,
 ];
 
 /// The command of this name.

@@ -1,5 +1,6 @@
-//! Drawings of networks on their controls, of groups, and of planes of pixels.
+//! Drawings of networks on their controls, of groups, of planes of pixels, and of frames.
 
+pub mod bars;
 mod canvas;
 mod curves;
 mod grid;

@@ -33,7 +33,7 @@ pub const STATUSES: [(u8, &str); 5] = [
     (0, "the call was carried out"),
     (
         1,
-        "an argument is missing, unknown, or not what it should be",
+        "an argument, or a line of a file, is missing, unknown, or not what it should be",
     ),
     (2, "the library refused the call"),
     (3, "the answer could not be written"),
@@ -57,6 +57,7 @@ pub const CONDITIONS: [&str; Refusal::ALL.len()] = [
     "subword size not 1, 2, 4, 8, 16, 32",
     "no rows, no words in a row, or the plane's length not their product",
     "another run waits, or none does, or the list is not the remainder",
+    "the guarantees sum above the cycles of the frame",
 ];
 
 /// The condition of a refusal.
@@ -87,11 +88,36 @@ impl Failure {
         }
     }
 
-    /// The same failure, with these lines below it if it is a refusal.
+    /// The same failure, of this part of the arguments or of a file.
+    pub fn at(self, place: &str) -> Self {
+        match self {
+            Failure::Argument { problem, command } => {
+                let problem = format!("{place}: {problem}");
+                Failure::Argument { problem, command }
+            }
+            Failure::Refused { refusal, below, .. } => {
+                let part = Some(place.to_string());
+                Failure::Refused {
+                    refusal,
+                    part,
+                    below,
+                }
+            }
+            other => other,
+        }
+    }
+
+    /// The same failure, with these lines below it if it is a refusal, above others that
+    /// are there already.
     pub fn above(self, lines: String) -> Self {
         match self {
-            Failure::Refused { refusal, part, .. } => {
-                let below = Some(lines);
+            Failure::Refused {
+                refusal,
+                part,
+                below,
+            } => {
+                let lines = [lines].into_iter().chain(below);
+                let below = Some(Vec::from_iter(lines).join("\n"));
                 Failure::Refused {
                     refusal,
                     part,
@@ -138,7 +164,8 @@ impl fmt::Display for Failure {
                 let (number, condition) = (refusal.number(), condition(*refusal));
                 write!(f, "refused {number}: {condition}")?;
                 part.iter().try_for_each(|part| write!(f, " ({part})"))?;
-                below.iter().try_for_each(|lines| write!(f, "\n{lines}"))
+                let mut below = below.iter().map(|lines| lines.trim_end());
+                below.try_for_each(|lines| write!(f, "\n{lines}"))
             }
             Failure::Unwritten(what, error) => write!(f, "cannot write {what}: {error}"),
         }

@@ -1,13 +1,16 @@
-//! The library's calls from the command line, and drawings of networks, groups and planes.
+//! The library's calls from the command line, and drawings of networks, groups, planes and
+//! frames.
 //!
 //! `tigbayon --help` lists the commands.
 
 mod answer;
 mod args;
+mod bank;
 mod command;
 mod commands;
 mod drawing;
 mod failure;
+mod frames;
 mod groups;
 mod help;
 mod network;
@@ -15,6 +18,7 @@ mod number;
 mod paths;
 mod picture;
 mod plane;
+mod schedule;
 mod turns;
 
 use answer::Answer;

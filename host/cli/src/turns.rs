@@ -3,7 +3,7 @@
 use crate::args::{unexpected, Given, Text};
 use crate::failure::Failure;
 use crate::number::{list, Base};
-use tigbayon::{Bank, End, Refusal, Run};
+use tigbayon::{Bank, End, Run};
 
 /// How a write is typed.
 pub const WRITE: &str = "K:R=WORD";
@@ -74,7 +74,8 @@ impl<'a> Plan<'a> {
         let writes = self.writes.iter();
         for write in writes.filter(|write| write.continuation == continuation) {
             let written = bank.write(write.number, write.value);
-            written.map_err(|refusal| write.refused(refusal))?;
+            let part = format!("--write {}", write.text);
+            written.map_err(|refusal| Failure::from(refusal).at(&part))?;
         }
         Ok(())
     }
@@ -126,14 +127,5 @@ impl<'a> Write<'a> {
             number,
             value,
         })
-    }
-
-    /// The failure of a write that is refused so.
-    fn refused(&self, refusal: Refusal) -> Failure {
-        Failure::Refused {
-            refusal,
-            part: Some(format!("--write {}", self.text)),
-            below: None,
-        }
     }
 }

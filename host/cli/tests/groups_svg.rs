@@ -5,6 +5,7 @@ mod support;
 use std::collections::{HashMap, HashSet};
 use std::iter::zip;
 use std::sync::LazyLock;
+use support::areas::{assert_apart, rects, sheet, text_areas, Area};
 use support::elements::{assert_on_sheet, Element, Point};
 use support::groups::{routed, Routed};
 use support::wires::Read;
@@ -144,86 +145,12 @@ fn any_bit_can_be_followed() {
     }
 }
 
-/// Where an element lies, from left to right and from top to bottom.
-#[derive(Clone, Copy, Debug)]
-struct Area {
-    x: [f64; 2],
-    y: [f64; 2],
-}
-
-impl Area {
-    fn of_rect(rect: &Element) -> Self {
-        let [x, y, width, height] =
-            ["x", "y", "width", "height"].map(|name| f64::from(rect.number(name)));
-        Area {
-            x: [x, x + width],
-            y: [y, y + height],
-        }
-    }
-
-    /// About what a text takes up whose letters are of this size.
-    fn of_text(text: &Element, size: f64) -> Self {
-        let [x, y] = ["x", "y"].map(|name| f64::from(text.number(name)));
-        let width = 0.62 * size * text.text.chars().count() as f64;
-        let left = match text.attributes["text-anchor"].as_str() {
-            "start" => x,
-            "middle" => x - width / 2.0,
-            _ => x - width,
-        };
-        Area {
-            x: [left, left + width],
-            y: [y - 0.75 * size, y + 0.2 * size],
-        }
-    }
-
-    fn meets(&self, other: &Area) -> bool {
-        let meet = |one: [f64; 2], other: [f64; 2]| one[0] < other[1] && other[0] < one[1];
-        meet(self.x, other.x) && meet(self.y, other.y)
-    }
-
-    fn holds(&self, other: &Area) -> bool {
-        let hold = |one: [f64; 2], other: [f64; 2]| one[0] <= other[0] && other[1] <= one[1];
-        hold(self.x, other.x) && hold(self.y, other.y)
-    }
-}
-
-/// Where the texts lie; the size of their letters may be that of a group.
-fn text_areas(read: &Read) -> Vec<Area> {
-    let (mut size, mut areas) = (0, Vec::new());
-    for element in &read.elements {
-        let own = element.attributes.get("font-size");
-        let own = own.map(|size| size.parse().unwrap());
-        match element.name.as_str() {
-            "g" => size = own.unwrap_or(size),
-            "text" => areas.push(Area::of_text(element, own.unwrap_or(size).into())),
-            _ => {}
-        }
-    }
-    areas
-}
-
-fn assert_apart(areas: &[Area]) {
-    for (number, area) in areas.iter().enumerate() {
-        let meets = areas[..number].iter().find(|other| area.meets(other));
-        assert!(meets.is_none(), "{area:?} meets {meets:?}");
-    }
-}
-
-/// The rectangles on the sheet, which is one too.
-fn rects(read: &Read) -> impl Iterator<Item = &Element> {
-    let rects = read
-        .elements
-        .iter()
-        .filter(|element| element.name == "rect");
-    rects.skip(1)
-}
-
 /// Texts, marks and bands lie apart, but for the numbers in the marks.
 #[test]
 fn nothing_overlaps() {
     for (_, read) in DRAWINGS.iter() {
-        let (rects, texts) = (rects(read).map(Area::of_rect), text_areas(read));
-        let rects: Vec<Area> = rects.collect();
+        let (rects, texts) = (rects(&read.elements), text_areas(&read.elements));
+        let rects: Vec<Area> = rects.map(Area::of_rect).collect();
         assert_apart(&rects);
         assert_apart(&texts);
         let mut within = 0;
@@ -242,12 +169,9 @@ fn all_lies_on_the_sheet() {
     for (_, read) in DRAWINGS.iter() {
         let drawn = ways(read).into_values().flat_map(Element::lines);
         assert_on_sheet(&read.elements, drawn.flatten().chain(read.path()));
-        let [width, height] = ["width", "height"].map(|name| read.elements[0].number(name));
-        let sheet = Area {
-            x: [0.0, width.into()],
-            y: [0.0, height.into()],
-        };
-        let areas = rects(read).map(Area::of_rect).chain(text_areas(read));
+        let sheet = sheet(&read.elements);
+        let areas = rects(&read.elements).map(Area::of_rect);
+        let areas = areas.chain(text_areas(&read.elements));
         areas.for_each(|area| assert!(sheet.holds(&area), "{area:?}"));
     }
 }
@@ -255,7 +179,7 @@ fn all_lies_on_the_sheet() {
 #[test]
 fn ways_lie_in_the_bands_of_their_steps() {
     for (_, read) in DRAWINGS.iter() {
-        let bands = rects(read).filter(|rect| rect.attributes["fill"] == BAND);
+        let bands = rects(&read.elements).filter(|rect| rect.attributes["fill"] == BAND);
         let bands: Vec<Area> = bands.map(Area::of_rect).collect();
         for ((number, _), way) in ways(read) {
             for (x, y) in way.lines().concat() {

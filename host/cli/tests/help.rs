@@ -2,6 +2,7 @@
 
 mod support;
 
+use std::fs;
 use support::{command, folder, outcome, prints, run};
 use tigbayon::Refusal;
 
@@ -35,11 +36,25 @@ fn examples(help: &str) -> Vec<(String, String)> {
         .collect()
 }
 
+/// The files that a help shows, by name.
+fn files(help: &str) -> Vec<(String, String)> {
+    let shown = help.split("\n\n").filter_map(|part| {
+        let (said, contents) = part.split_once(" holds:\n")?;
+        let lines = contents.lines().map(|line| line.trim_start().to_string());
+        let name = said.split(' ').next_back()?;
+        Some((name.to_string(), Vec::from_iter(lines).join("\n")))
+    });
+    shown.collect()
+}
+
 #[test]
 fn every_example_prints_what_is_shown() {
     let folder = folder("help");
     let mut count = 0;
     for help in helps() {
+        for (name, contents) in files(&help) {
+            fs::write(folder.join(name), contents).unwrap();
+        }
         let examples = examples(&help);
         assert!(!examples.is_empty(), "{help}");
         for (call, printed) in examples {
@@ -56,7 +71,7 @@ fn every_example_prints_what_is_shown() {
         }
     }
     assert!(count > 40, "{count} examples");
-    for drawn in ["route.svg", "pixels.svg"] {
+    for drawn in ["route.svg", "pixels.svg", "bars.svg"] {
         assert!(folder.join(drawn).exists());
     }
 }
@@ -87,7 +102,7 @@ fn the_version() {
 fn all_commands_are_listed() {
     let expected = "\
         gather scatter group decode butterfly inverse route compare pack unpack planes bytes \
-        tile check excheck mix-left mix-right exchange despeckle run";
+        tile check excheck mix-left mix-right exchange despeckle run frame";
     assert_eq!(names().join(" "), expected);
     let listed = expected.replace(' ', ", ");
     assert!(run(&["turn"]).error.contains(&listed));

@@ -154,14 +154,8 @@ fn grounds(elements: &[Element]) -> [Ground; 2] {
 /// Where the squares of this class begin.
 fn squares<'a>(elements: &'a [Element], class: &'a str) -> impl Iterator<Item = Point> + 'a {
     let paths = elements.iter().filter(move |element| element.is(class));
-    paths.flat_map(|path| {
-        let squares = path.attributes["d"].split('M').skip(1);
-        squares.map(|square| {
-            let (place, _) = square.split_once('h').unwrap();
-            let (x, y) = place.split_once(' ').unwrap();
-            (x.parse().unwrap(), y.parse().unwrap())
-        })
-    })
+    let squares = paths.flat_map(Element::blocks);
+    squares.map(|square| square.place)
 }
 
 /// The plane whose lit pixels are drawn so on this ground, each once.

@@ -2,12 +2,14 @@
 //! lengths and the cuts reach their limits and beyond.
 
 use crate::controls::Controls;
+use crate::frame::Frame;
 use crate::packing::{spare, words_needed, LONGEST};
 use crate::pixels::{wrapping_to, Plane, Shape, LONGEST_SHAPES};
 use crate::programs::{self, bank, cycles, damage, program};
 use crate::samples::{any_controls, any_permutation, any_word, Random};
 use crate::unit::{Bank, Operation};
 use crate::{SIZES, WIDTHS};
+use std::iter::zip;
 
 /// A width to hand over, and the accepted one that the other arguments are made
 /// for, which mostly is the same.
@@ -286,6 +288,75 @@ pub fn budget(random: &mut Random, list: &[u8]) -> u32 {
     let any = random.word() as u32;
     let one_less = total.saturating_sub(1);
     random.pick(&[0, 1, 2, 3, within, within, one_less, total, any, u32::MAX])
+}
+
+/// A channel that refuses nothing: its bank does not wait, or waits for this list.
+fn good_channel(random: &mut Random) -> (Bank, Vec<u8>) {
+    let operations = match random.below(128) {
+        0 => 1_024,
+        _ => random.below(13),
+    };
+    let list = program(random, operations);
+    let mut bank = any_bank(random);
+    if bank.waiting != 0 {
+        remember(&mut bank, &list);
+    }
+    (bank, list)
+}
+
+/// A frame that is carried out; some have more cycles than are guaranteed.
+pub fn good_frame(random: &mut Random) -> Frame {
+    let channels = [(); 4].map(|()| good_channel(random));
+    let guarantees = channels.each_ref().map(|(_, list)| {
+        let most = cycles(list) + 4;
+        budget(random, list) % most
+    });
+    let mut frame = Frame::of(channels, guarantees);
+    let more = random.word() as u32 >> random.below(32);
+    frame.cycles = random.pick(&[frame.cycles, frame.cycles.saturating_add(more), u32::MAX]);
+    frame
+}
+
+/// A frame of any sort: some channels, guarantees or cycles make it a refused one.
+pub fn frame(random: &mut Random) -> Frame {
+    let mut frame = good_frame(random);
+    for _ in 0..random.pick(&[0, 0, 1, 1, 2, 4]) {
+        spoil(random, &mut frame);
+    }
+    frame
+}
+
+/// Makes one thing of a frame another, which need not be refused.
+fn spoil(random: &mut Random, frame: &mut Frame) {
+    let number = random.below(4) as usize;
+    match random.below(5) {
+        0 => (frame.banks[number], frame.lists[number]) = continued(random),
+        1 => {
+            frame.lists[number] = list(random);
+            frame.banks[number] = bank_for(random, &frame.lists[number]);
+        }
+        2 => frame.guarantees[number] = budget(random, &frame.lists[number]),
+        3 => frame.cycles = random.word() as u32,
+        _ => {
+            let sum: u64 = frame.guarantees.map(u64::from).iter().sum();
+            frame.cycles = (sum as u32).wrapping_sub(random.below(2));
+        }
+    }
+}
+
+/// Brings other lists for the next frame of these banks: mostly their remainders, or new
+/// ones where they do not wait.
+pub fn bring_next(random: &mut Random, frame: &mut Frame) {
+    for (bank, list) in zip(&frame.banks, &mut frame.lists) {
+        match bank.list.get(..bank.left as usize) {
+            _ if random.below(32) == 0 => {}
+            Some(remainder) if bank.waiting != 0 => *list = remainder.to_vec(),
+            _ => {
+                let operations = random.below(13);
+                *list = program(random, operations);
+            }
+        }
+    }
 }
 
 /// The number of a register; some are above 15.

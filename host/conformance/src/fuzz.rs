@@ -1,7 +1,7 @@
 //! Every exported call on arbitrary arguments, held against its model in the
 //! whole answer and in everything that is lent.
 
-use crate::arbitrary::{any_bank, bank_for, budget, continued, list, operation};
+use crate::arbitrary::{any_bank, bank_for, bring_next, budget, continued, frame, list, operation};
 use crate::arbitrary::{byte, controls, cut, end, length, other_length};
 use crate::arbitrary::{permutation, plane, register, size, widths, word};
 use crate::call::{Call, BUTTERFLY, DECODE, GATHER, GROUP, INVERSE, SCATTER};
@@ -16,7 +16,7 @@ use crate::prepared::{Passage, THROUGH_BUTTERFLY, THROUGH_INVERSE};
 use crate::samples::{any_controls, any_eight, any_swaps, any_word, random_words, Random};
 use crate::tiles::{Movement, MIRROR_COLUMNS, MIRROR_ROWS, TRANSPOSE, TURN_LEFT, TURN_RIGHT};
 use crate::unit::{acknowledge, enable, interrupt, status};
-use crate::unit::{continue_run, drop_run, operate, read, run, write};
+use crate::unit::{continue_run, drop_run, operate, read, run, write, Bank};
 use crate::WIDTHS;
 use model::gather::Gathered;
 use model::prepared::Swaps;
@@ -26,7 +26,7 @@ use std::iter::zip;
 use std::panic::{catch_unwind, resume_unwind};
 
 /// How many refusal numbers there are, 0 among them.
-const NUMBERS: usize = 15;
+const NUMBERS: usize = 16;
 
 /// An exported call.
 struct Target {
@@ -37,7 +37,7 @@ struct Target {
     check: fn(&mut Random) -> u8,
 }
 
-const TARGETS: [Target; 39] = [
+const TARGETS: [Target; 40] = [
     target("gather", &[0, 1, 2], |random| masked(random, GATHER)),
     target("scatter", &[0, 1, 2], |random| masked(random, SCATTER)),
     target("group", &[0, 1, 2], |random| masked(random, GROUP)),
@@ -126,6 +126,7 @@ const TARGETS: [Target; 39] = [
         drop_run(&mut any_bank(random));
         NONE
     }),
+    target("frame", &[0, 4, 7, 8, 14, 15], framed),
     target("read", &[0, 8], |random| {
         read(&any_bank(random), register(random)).refusal
     }),
@@ -241,6 +242,42 @@ fn paired(random: &mut Random, call: Call<u64>) -> u8 {
     let size = size(random);
     let [first, second] = [(); 2].map(|()| any_word(random, 64));
     call.check(size, first, second).refusal
+}
+
+/// A frame, or one after others on the same banks, with calls on these between; answers
+/// the number of the last.
+fn framed(random: &mut Random) -> u8 {
+    let mut frame = frame(random);
+    let mut refusal = frame.call().refusal;
+    for _ in 0..random.below(3) {
+        let number = random.below(4) as usize;
+        any_call(random, &mut frame.banks[number]);
+        bring_next(random, &mut frame);
+        refusal = frame.call().refusal;
+    }
+    refusal
+}
+
+/// Makes some call on this bank that may change it.
+pub fn any_call(random: &mut Random, bank: &mut Bank) {
+    match random.below(8) {
+        0 => drop(operate(bank, operation(random))),
+        1 => {
+            let list = list(random);
+            let budget = budget(random, &list);
+            run(bank, &list, budget);
+        }
+        2 | 3 => {
+            let left = bank.list.len().min(bank.left as usize);
+            let list = bank.list[..left].to_vec();
+            let budget = budget(random, &list);
+            continue_run(bank, &list, budget);
+        }
+        4 => drop_run(bank),
+        5 => drop(write(bank, register(random), random.word())),
+        6 => enable(bank, byte(random)),
+        _ => acknowledge(bank, byte(random)),
+    }
 }
 
 /// For each call, how often it answered each refusal number.

@@ -3,6 +3,7 @@
 pub mod arbitrary;
 pub mod call;
 pub mod controls;
+pub mod frame;
 pub mod fuzz;
 pub mod guards;
 mod lists;
@@ -16,6 +17,7 @@ pub mod prepared;
 pub mod programs;
 pub mod refusals;
 pub mod samples;
+pub mod schedules;
 pub mod stack;
 pub mod tiles;
 pub mod unit;

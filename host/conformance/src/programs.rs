@@ -36,6 +36,28 @@ pub const FORMS: [Form; 13] = [
     form(10, None, [true, true, true], 3),
 ];
 
+/// No kind, refusal 7, and a register in use above 15, refusal 8.
+pub const NO_KIND: Operation = [0, 16, 16, 16];
+/// See [`NO_KIND`].
+pub const BEYOND: Operation = [3, 1, 2, 16];
+
+/// More bytes left than any remainder has; some of them would be a length that one has if
+/// they were cut to fewer bits.
+pub const LEFT_BEYOND: [u32; 12] = [
+    4_097,
+    4_100,
+    8_192,
+    8_192 + 4,
+    1 << 16,
+    (1 << 16) + 4,
+    (1 << 16) + 4_096,
+    1 << 24,
+    1 << 31,
+    (1 << 31) + 8,
+    u32::MAX - 3,
+    u32::MAX,
+];
+
 /// A list for each end of a run with a budget of 0.
 pub const ENDS: [(End, &[u8]); 3] = [
     (End::Done, &[]),
@@ -87,11 +109,34 @@ pub fn refusal(operation: &[u8]) -> u8 {
     }
 }
 
+/// The number that a list is refused by on any bank, or 0.
+pub fn list_refusal(list: &[u8]) -> u8 {
+    if list.len() % 4 != 0 || list.len() > LONGEST {
+        return 4;
+    }
+    let numbers = list.chunks(4).map(refusal).filter(|&number| number != 0);
+    numbers.min().unwrap_or(0)
+}
+
 /// The sum of the cycles of a list's operations, which have forms.
 pub fn cycles(list: &[u8]) -> u32 {
     let operations = list.chunks_exact(4);
     let figures = operations.map(|operation| Form::of(operation).map_or(0, |form| form.cycles));
     figures.sum()
+}
+
+/// A list of operations of these cycles, each another one.
+pub fn by_figures(figures: &[u32]) -> Vec<u8> {
+    let operation = |(turn, figure): (usize, &u32)| {
+        let number = (turn % 14) as u8;
+        match figure {
+            1 => [1, number, 14, 0],
+            2 => [9, 0, 0, number],
+            3 => [10, number, 14, 15],
+            _ => panic!("no operation has {figure} cycles"),
+        }
+    };
+    figures.iter().enumerate().flat_map(operation).collect()
 }
 
 /// A bank of random, sparse and dense words, and any two bytes. It does not wait,

@@ -5,6 +5,7 @@ use crate::guards::only_read;
 use model::refusal::{Answer, NONE};
 pub use model::unit::{Bank, End, Operation, Run};
 use std::fmt::Debug;
+use std::iter::zip;
 use tigbayon::{Refusal, TbBank, TbCycles, TbRegister, TbRun};
 
 /// Performs one operation all three ways, panics unless they agree in the answer and
@@ -186,6 +187,11 @@ fn assert_number_of(call: RunCall, number: u8, bank: &Bank, list: &[u8], budget:
     }
 }
 
+/// The general and settings registers.
+pub fn registers(bank: &Bank) -> ([u64; 16], [u64; 3], [u64; 3]) {
+    (bank.general, bank.b, bank.ib)
+}
+
 /// The bank with these status bits set.
 pub fn with_status(bank: &Bank, bits: u8) -> Bank {
     let status = bank.status | bits;
@@ -225,12 +231,12 @@ pub fn lent(bank: &Bank) -> tigbayon::Bank {
     }
 }
 
-/// A call on a bank: as the archive exports it, as the wrapper offers it, and
-/// as the model defines it.
-struct UnitCall<L, W, M> {
-    raw: L,
-    wrapped: W,
-    model: M,
+/// A call on a bank, or on several: as the archive exports it, as the wrapper offers
+/// it, and as the model defines it.
+pub(crate) struct UnitCall<L, W, M> {
+    pub raw: L,
+    pub wrapped: W,
+    pub model: M,
 }
 
 impl<L, W, M> UnitCall<L, W, M> {
@@ -241,36 +247,61 @@ impl<L, W, M> UnitCall<L, W, M> {
         W: FnOnce(&mut tigbayon::Bank) -> Result<R, Refusal>,
         M: FnOnce(&mut Bank) -> Answer<R>,
     {
-        let before = lent(bank);
-        let model = (self.model)(bank);
+        let call = UnitCall {
+            raw: |[bank]: [&mut TbBank; 1]| (self.raw)(bank),
+            wrapped: |[bank]: [&mut tigbayon::Bank; 1]| (self.wrapped)(bank),
+            model: |[bank]: [&mut Bank; 1]| (self.model)(bank),
+        };
+        call.check_each(name, [bank])
+    }
+
+    /// Makes the call all three ways on these banks, panics unless they agree in the
+    /// answer and in every register and byte of each bank, hands the answer back and
+    /// leaves the banks so.
+    pub fn check_each<R, const N: usize>(
+        self,
+        name: impl Fn() -> String,
+        mut banks: [&mut Bank; N],
+    ) -> Answer<R>
+    where
+        R: Copy + Debug + PartialEq,
+        L: FnOnce([&mut TbBank; N]) -> Answer<R>,
+        W: FnOnce([&mut tigbayon::Bank; N]) -> Result<R, Refusal>,
+        M: FnOnce([&mut Bank; N]) -> Answer<R>,
+    {
+        let before = banks.each_ref().map(|bank| lent(bank));
+        let model = (self.model)(banks.each_mut().map(|bank| &mut **bank));
         let input = || format!("{} {before:x?}", name());
-        let (library, by_library) = guarded(&before, bank, self.raw);
-        let (wrapped, by_wrapper) = guarded(&before, bank, self.wrapped);
+        let (library, by_library) = guarded(&before, &banks, self.raw);
+        let (wrapped, by_wrapper) = guarded(&before, &banks, self.wrapped);
         assert_agree(input, library, model, wrapped);
         for (by, other) in [("library", by_library), ("wrapper", by_wrapper)] {
             if let Some(other) = other {
-                panic!("{}: {by} {other:x?}, model {bank:x?}", input());
+                panic!("{}: {by} {other:x?}, model {banks:x?}", input());
             }
         }
         model
     }
 }
 
-/// What a call answers on a copy of the bank, and the copy then if it is not as expected;
-/// a word on either side, which is not lent, must stay.
-fn guarded<A>(
-    before: &TbBank,
-    expected: &Bank,
-    call: impl FnOnce(&mut TbBank) -> A,
-) -> (A, Option<Box<TbBank>>) {
+/// What a call answers on copies of the banks, and the copies then if they are not as
+/// expected; a word on either side of each, which is not lent, must stay.
+fn guarded<A, const N: usize>(
+    before: &[TbBank; N],
+    expected: &[&mut Bank; N],
+    call: impl FnOnce([&mut TbBank; N]) -> A,
+) -> (A, Option<Vec<TbBank>>) {
     const NOT_LENT: u64 = 0x5AA5_0FF0_3CC3_9669;
     #[repr(C)]
     struct Guarded(u64, TbBank, u64);
-    let mut copy = Guarded(NOT_LENT, *before, NOT_LENT);
-    let answer = call(&mut copy.1);
-    assert_eq!([copy.0, copy.2], [NOT_LENT; 2]);
-    let other = !is_as(&copy.1, expected);
-    (answer, other.then(|| Box::new(copy.1)))
+    let mut copies = before.map(|bank| Guarded(NOT_LENT, bank, NOT_LENT));
+    let answer = call(copies.each_mut().map(|copy| &mut copy.1));
+    for copy in &copies {
+        assert_eq!([copy.0, copy.2], [NOT_LENT; 2]);
+    }
+    let same = zip(&copies, expected).all(|(copy, expected)| is_as(&copy.1, expected));
+    let other = || copies.iter().map(|copy| copy.1).collect();
+    (answer, (!same).then(other))
 }
 
 /// Whether the library's bank is as the model's, in every register and byte.
@@ -316,13 +347,19 @@ fn ran(answer: TbRun) -> Answer<Run> {
         ran,
         cycles,
     } = answer;
-    let ends = [End::Refused, End::Done, End::Spent];
-    let end = ends[usize::from(end)];
+    let end = end_of(end);
     let result = Run { end, ran, cycles };
     Answer { refusal, result }
 }
 
-fn wrapped_run(tigbayon::Run { end, ran, cycles }: tigbayon::Run) -> Run {
+/// The end of this number.
+pub(crate) fn end_of(number: u8) -> End {
+    let ends = [End::Refused, End::Done, End::Spent];
+    ends[usize::from(number)]
+}
+
+/// The wrapper's answer as the model has it.
+pub(crate) fn wrapped_run(tigbayon::Run { end, ran, cycles }: tigbayon::Run) -> Run {
     let end = match end {
         tigbayon::End::Done => End::Done,
         tigbayon::End::Spent => End::Spent,

@@ -5,8 +5,8 @@ use std::fs;
 use std::mem::{align_of, offset_of, size_of};
 use std::path::{Path, PathBuf};
 use std::process::Command;
-use tigbayon::{Refusal, TbBank, TbCarried, TbControls1, TbControls2, TbCycles};
-use tigbayon::{TbGathered, TbMasks, TbPacked, TbPlanes, TbPrepared, TbRegister, TbRun};
+use tigbayon::{Refusal, TbBank, TbCarried, TbChannel, TbControls1, TbControls2, TbCycles};
+use tigbayon::{TbFrame, TbGathered, TbMasks, TbPacked, TbPlanes, TbPrepared, TbRegister, TbRun};
 
 const CRATE: &str = env!("CARGO_MANIFEST_DIR");
 const README: &str = include_str!("../../../README.md");
@@ -145,6 +145,24 @@ const WAITING: &str = "\
     continue 0 1 0 0: 1f 7\n\
     waits 0 0: 8 0 0 3 3 1 2 3\n";
 
+/// What it prints of frames, after the sizes of the answer's fields: for each channel its answer
+/// and its status, then register 1 of channels 0 and 2. The list has operations of 2 cycles and
+/// of 1.
+const FRAMES: &str = "\
+    sizes 1 1 4 4\n\
+    frame 15: 0 0 0 4, 0 0 0 4, 0 0 0 4, 0 0 0 4, 0 0\n\
+    frame 7: 0 0 0 4, 0 0 0 4, 0 0 0 4, 0 0 0 4, 0 0\n\
+    frame 0: 1 2 3 5, 1 0 0 5, 2 0 0 6, 1 0 0 5, 1a 0\n\
+    waits 0 0: 0 0 0 0 0 0 0 0\n\
+    waits 1 8: 8 0 0 3 3 1 2 3\n\
+    frame 14: 0 0 0 5, 0 0 0 5, 0 0 0 6, 0 0 0 5, 1a 0\n\
+    frame 0: 1 0 0 5, 2 0 0 7, 1 2 3 7, 1 0 0 5, 1a 1a\n\
+    waits 1 8: 8 0 0 3 3 1 2 3\n\
+    frame 0: 1 0 0 5, 1 2 3 7, 1 2 3 7, 1 0 0 5, 1a 1a\n\
+    frame 15: 0 0 0 5, 0 0 0 7, 0 0 0 7, 0 0 0 5, 1a 1a\n\
+    list: 8 0 0 3 3 1 2 3\n\
+    guarantees: 0 4294967295 4294967295 2\n";
+
 /// What it prints of both bytes as they are held, of the status and of the line.
 const POLLING: &str = "\
     statuses 1 2 4\n\
@@ -222,6 +240,8 @@ fn layouts() -> String {
         + &layout!(TbBank, general, b, ib, status, enable, waiting, left, list)
         + &layout!(TbCycles, refusal, cycles)
         + &layout!(TbRun, refusal, end, ran, cycles)
+        + &layout!(TbChannel, end, ran, cycles)
+        + &layout!(TbFrame, refusal, channels)
         + &layout!(TbRegister, refusal, value)
 }
 
@@ -257,7 +277,7 @@ fn expected() -> String {
         permutation 0 4 2 3 1 5 6 7\n";
     let numbers = format!("numbers 0{}\n", numbers.concat());
     let calls = [
-        GROUPS, PREPARED, PACKING, PLANES, TILES, SUBWORDS, PIXELS, UNIT, WAITING, POLLING,
+        GROUPS, PREPARED, PACKING, PLANES, TILES, SUBWORDS, PIXELS, UNIT, WAITING, FRAMES, POLLING,
     ];
     layouts() + &numbers + answers + &calls.concat()
 }
@@ -288,14 +308,28 @@ fn a_bank_has_4280_bytes() {
     assert!(HEADER.contains("Any bytes are accepted in a bank. It has 4,280 of them."));
 }
 
-/// The header and the wrapper say what refusal 14 is by the paper's words.
+/// An answer of 52 bytes comes back by a pointer that the caller hands over.
 #[test]
-fn refusal_14_is_the_papers() {
-    let paper = "another run waits, or none does, or the list is not the remainder";
+fn a_frame_answers_52_bytes() {
+    assert!(layouts().contains("TbChannel 12 4: 0 4 8\nTbFrame 52 4: 0 4\n"));
+}
+
+/// The header and the wrapper say what refusals 14 and 15 are by the paper's words, whose F is
+/// the cycles of the frame.
+#[test]
+fn refusals_14_and_15_are_the_papers() {
+    let waiting = "another run waits, or none does, or the list is not the remainder";
+    let above = "the guarantees sum above F".replace('F', "the cycles of the frame");
     let words = |text: &str| text.split_whitespace().collect::<Vec<_>>().join(" ");
-    let expected = format!("TB_REFUSAL_WAITING = 14 /* {paper} */");
+    let expected =
+        format!("TB_REFUSAL_WAITING = 14, /* {waiting} */ TB_REFUSAL_FRAME = 15 /* {above} */");
     assert!(words(HEADER).contains(&expected));
-    assert_eq!(Refusal::Waiting.to_string(), format!("refusal 14: {paper}"));
+    let shown = [Refusal::Waiting, Refusal::Frame].map(|refusal| refusal.to_string());
+    let expected = [
+        format!("refusal 14: {waiting}"),
+        format!("refusal 15: {above}"),
+    ];
+    assert_eq!(shown, expected);
 }
 
 /// The repository's README shows how to link; its program prints what it says.

@@ -1,16 +1,17 @@
 //! The calls of the register unit touch nothing beside what is lent to them: the list of a
-//! run, and the bank, each right before or after a page that may not be touched. The
-//! answers are those of the same calls elsewhere.
+//! run, the bank, and the guarantees of a frame, each right before or after a page that may
+//! not be touched. The answers are those of the same calls elsewhere.
 #![cfg(target_os = "linux")]
 
-use conformance::arbitrary::continued;
+use conformance::arbitrary::{continued, frame, good_frame};
+use conformance::frame::Frame;
 use conformance::pages::{beside, Side, SIDES};
 use conformance::programs::{program, waiting_bank, LONGEST};
 use conformance::samples::Random;
 use conformance::unit::lent;
 use std::fmt::Debug;
-use tigbayon::{tb_acknowledge, tb_continue, tb_drop, tb_enable, tb_interrupt, tb_operate};
-use tigbayon::{tb_read, tb_run, tb_status, tb_write, TbBank, TbRun};
+use tigbayon::{tb_acknowledge, tb_continue, tb_drop, tb_enable, tb_frame, tb_interrupt};
+use tigbayon::{tb_operate, tb_read, tb_run, tb_status, tb_write, TbBank, TbRun};
 
 /// A run, or a continued one.
 type RunCall = fn(&mut TbBank, &[u8], u32) -> TbRun;
@@ -106,6 +107,46 @@ fn the_other_calls_on_a_bank() {
             assert_same(&bank, |bank| tb_acknowledge(bank, byte));
             assert_same(&bank, |bank| tb_interrupt(bank));
         }
+    }
+}
+
+/// Checks that a frame answers, and leaves its banks, as it does elsewhere, if the guarantees,
+/// and the bank and the list of some channel, lie beside such pages.
+fn assert_frame_same(frame: &Frame) {
+    let Frame {
+        guarantees, cycles, ..
+    } = frame;
+    let before = frame.banks.each_ref().map(lent);
+    let lists = frame.lists.each_ref().map(Vec::as_slice);
+    let mut elsewhere = before;
+    let expected = tb_frame(elsewhere.each_mut(), lists, guarantees, *cycles);
+    for (side, number) in SIDES
+        .into_iter()
+        .flat_map(|side| [0, 1, 2, 3].map(|n| (side, n)))
+    {
+        let mut others = before;
+        let mut call = |bank: &mut TbBank, list: &[u8], guarantees: &[u32]| {
+            let (mut banks, mut lists) = (others.each_mut(), lists);
+            (banks[number], lists[number]) = (bank, list);
+            tb_frame(banks, lists, guarantees.try_into().expect("four"), *cycles)
+        };
+        let (((answer, given), list), bank) = beside(side, &[before[number]], |bank| {
+            beside(side, lists[number], |list| {
+                beside(side, guarantees, |given| call(&mut bank[0], list, given))
+            })
+        });
+        others[number] = bank[0];
+        assert_eq!(answer, expected);
+        assert!(others == elsewhere && list == lists[number] && given == guarantees);
+    }
+}
+
+#[test]
+fn frames_of_every_sort() {
+    let mut random = Random::default();
+    for round in 0..150 {
+        let make = if round % 3 == 0 { frame } else { good_frame };
+        assert_frame_same(&make(&mut random));
     }
 }
 

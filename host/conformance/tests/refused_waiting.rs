@@ -2,43 +2,13 @@
 //! not the remainder": it comes after 4, 7 and 8, on every bank that can be lent, and such a
 //! call leaves the bank as it was, but for the status bit of a refused run.
 
-use conformance::programs::{bank, cycles, each_form, program, refusal, waiting_bank};
-use conformance::programs::{FORMS, LONGEST};
+use conformance::programs::{bank, cycles, each_form, list_refusal, program, refusal};
+use conformance::programs::{waiting_bank, BEYOND, FORMS, LEFT_BEYOND, LONGEST, NO_KIND};
 use conformance::samples::Random;
 use conformance::unit::{assert_continued_number, assert_number, assert_run_number};
-use conformance::unit::{continue_run, drop_run, operate, run, Bank, End, Operation};
+use conformance::unit::{continue_run, drop_run, operate, run, Bank, End};
 
 const BUDGETS: [u32; 5] = [0, 1, 2, 3, u32::MAX];
-
-/// No kind, refusal 7, and a register in use above 15, refusal 8.
-const NO_KIND: Operation = [0, 16, 16, 16];
-const BEYOND: Operation = [3, 1, 2, 16];
-
-/// More than any remainder has; some of them would be one of the others below if they were
-/// cut to fewer bits.
-const LEFT_BEYOND: [u32; 12] = [
-    4_097,
-    4_100,
-    8_192,
-    8_192 + 4,
-    1 << 16,
-    (1 << 16) + 4,
-    (1 << 16) + 4_096,
-    1 << 24,
-    1 << 31,
-    (1 << 31) + 8,
-    u32::MAX - 3,
-    u32::MAX,
-];
-
-/// The number that a list is refused by on any bank, or 0.
-fn number_of(list: &[u8]) -> u8 {
-    if list.len() % 4 != 0 || list.len() > LONGEST {
-        return 4;
-    }
-    let numbers = list.chunks(4).map(refusal).filter(|&number| number != 0);
-    numbers.min().unwrap_or(0)
-}
 
 /// This number, or 14 if it is 0 and the call is turned back.
 fn or_14(number: u8, turned_back: bool) -> u8 {
@@ -50,7 +20,7 @@ fn or_14(number: u8, turned_back: bool) -> u8 {
 
 /// Checks that the call on the list has the numbers that it must have on this bank.
 fn assert_numbers(bank: &Bank, list: &[u8]) {
-    let number = number_of(list);
+    let number = list_refusal(list);
     let waits = bank.waiting != 0;
     let equal = bank.left as usize == list.len() && bank.list.starts_with(list);
     for budget in BUDGETS {
@@ -167,7 +137,7 @@ fn each_byte_of_a_remainder() {
         for byte in 0..=255 {
             let mut other = list.clone();
             other[place] = byte;
-            let number = or_14(number_of(&other), other != list);
+            let number = or_14(list_refusal(&other), other != list);
             assert_continued_number(number, &bank, &other, u32::MAX);
         }
     }
@@ -199,7 +169,7 @@ fn each_byte_that_is_not_used() {
             for bit in 0..8 {
                 let mut other = each_form();
                 other[4 * turn + place] ^= 1 << bit;
-                assert_eq!(number_of(&other), 0);
+                assert_eq!(list_refusal(&other), 0);
                 assert_continued_number(14, &bank, &other, u32::MAX);
             }
         }
@@ -253,7 +223,7 @@ fn no_list_equals_more_than_4096_bytes() {
         for length in cut.into_iter().chain([0, 4, 8, 4_092, 4_096]) {
             let list = [&longest[..], &longest].concat();
             let list = &list[..length.min(8_192)];
-            assert_continued_number(or_14(number_of(list), true), &bank, list, u32::MAX);
+            assert_continued_number(or_14(list_refusal(list), true), &bank, list, u32::MAX);
         }
         let mut dropped = bank;
         drop_run(&mut dropped);
@@ -292,7 +262,7 @@ fn a_remainder_that_is_refused() {
         let mut bank = waiting_bank(&mut random, held);
         bank.left = list.len() as u32;
         for budget in BUDGETS {
-            assert_continued_number(number_of(&list), &bank, &list, budget);
+            assert_continued_number(list_refusal(&list), &bank, &list, budget);
         }
     }
 }

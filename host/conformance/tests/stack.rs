@@ -1,8 +1,9 @@
 //! The stack that each exported call uses, at its deepest over many inputs.
 //! With `--nocapture` the bytes are printed.
 
-use conformance::arbitrary::{any_bank, budget, byte, continued, list, operation, register};
+use conformance::arbitrary::{any_bank, budget, byte, continued, frame, list, operation, register};
 use conformance::arbitrary::{controls, cut, permutation, plane, size, widths, word};
+use conformance::frame::Frame;
 use conformance::packing::{clean_end, LONGEST};
 use conformance::permutations::{one_loop, FIXED};
 use conformance::pixels::{Plane, LONGEST_SHAPES};
@@ -17,9 +18,9 @@ use std::hint::black_box;
 use std::thread;
 use tigbayon::{
     tb_acknowledge, tb_butterfly, tb_butterfly_prepared, tb_check, tb_continue, tb_decode,
-    tb_despeckle, tb_drop, tb_enable, tb_exchange, tb_excheck, tb_from_planes, tb_gather, tb_group,
-    tb_interrupt, tb_inverse, tb_inverse_prepared, tb_mix_left, tb_mix_right, tb_operate, tb_pack,
-    tb_prepare_butterfly, tb_prepare_inverse, tb_read, tb_route, tb_route_butterfly,
+    tb_despeckle, tb_drop, tb_enable, tb_exchange, tb_excheck, tb_frame, tb_from_planes, tb_gather,
+    tb_group, tb_interrupt, tb_inverse, tb_inverse_prepared, tb_mix_left, tb_mix_right, tb_operate,
+    tb_pack, tb_prepare_butterfly, tb_prepare_inverse, tb_read, tb_route, tb_route_butterfly,
     tb_route_groups, tb_route_inverse, tb_run, tb_scatter, tb_status, tb_tile_mirror_columns,
     tb_tile_mirror_rows, tb_tile_transpose, tb_tile_turn_left, tb_tile_turn_right, tb_to_planes,
     tb_unpack, tb_write, TbCarried, TbGathered, TbPacked, TbPlanes, TbPrepared,
@@ -30,6 +31,9 @@ const LIMIT: usize = 16 * 1_024;
 
 /// Nor may a run, continued or not: the operations left are not copied to the stack.
 const LIMIT_OF_RUNS: usize = 2 * 1_024;
+
+/// Nor may a frame: the four banks are not.
+const LIMIT_OF_FRAMES: usize = 8 * 1_024;
 
 /// How often each call is measured, on inputs of every sort each time.
 const ROUNDS: u32 = 300;
@@ -54,7 +58,7 @@ impl Gauge {
 /// Measures a call once on each sort of input.
 type Measure = fn(&mut Gauge);
 
-const CALLS: [(&str, Measure); 40] = [
+const CALLS: [(&str, Measure); 41] = [
     ("(none)", |gauge| gauge.measure(|| ())),
     ("tb_gather", |gauge| masked(gauge, tb_gather)),
     ("tb_scatter", |gauge| masked(gauge, tb_scatter)),
@@ -129,6 +133,7 @@ const CALLS: [(&str, Measure); 40] = [
         let mut bank = lent(&any_bank(&mut gauge.random));
         gauge.measure(|| tb_drop(&mut bank));
     }),
+    ("tb_frame", framed),
     ("tb_read", |gauge| {
         let bank = lent(&bank(&mut gauge.random));
         let number = register(&mut gauge.random);
@@ -250,6 +255,35 @@ fn ran_on(gauge: &mut Gauge) {
     }
 }
 
+/// Four of the longest lists, new and continued, by their guarantees, by what one leaves, or
+/// not at all; and any frame.
+fn framed(gauge: &mut Gauge) {
+    let random = &mut gauge.random;
+    let channels = [0, 1, 2, 3].map(|number| {
+        let list = program(random, 1_024);
+        match number % 2 {
+            0 => (bank(random), list),
+            _ => (waiting_bank(random, &list), list),
+        }
+    });
+    let any = frame(random);
+    for guarantees in [
+        [1 << 16; 4],
+        [1 << 20, 2, 1 << 10, 1],
+        [0, 0, 0, 1 << 20],
+        [0; 4],
+    ] {
+        measure_frame(gauge, &Frame::of(channels.clone(), guarantees));
+    }
+    measure_frame(gauge, &any);
+}
+
+fn measure_frame(gauge: &mut Gauge, frame: &Frame) {
+    let mut banks = frame.banks.each_ref().map(lent);
+    let lists = frame.lists.each_ref().map(Vec::as_slice);
+    gauge.measure(|| tb_frame(banks.each_mut(), lists, &frame.guarantees, frame.cycles));
+}
+
 /// Measured on a thread, so that the stack is a fresh one.
 fn deepest(measure: Measure) -> usize {
     let measured = move || {
@@ -278,6 +312,15 @@ fn runs_use_less_than_2_kib() {
         let bytes = deepest(measure);
         assert!(bytes < LIMIT_OF_RUNS, "{name} uses {bytes} bytes of stack");
     }
+}
+
+#[test]
+fn frames_use_less_than_8_kib() {
+    let bytes = deepest(framed);
+    assert!(
+        bytes < LIMIT_OF_FRAMES,
+        "tb_frame uses {bytes} bytes of stack"
+    );
 }
 
 /// So that routing it is measured at its deepest.

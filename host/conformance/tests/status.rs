@@ -2,6 +2,7 @@
 //! wrapper and model agree on all their values, and what follows from the request holds.
 
 use conformance::arbitrary::{budget, byte, list, operation, register};
+use conformance::frame::among_others;
 use conformance::programs::{bank, cycles, program, waiting_bank, ENDS, FORMS, LONGEST};
 use conformance::samples::Random;
 use conformance::unit::{acknowledge, enable, interrupt, operate, read, run, status, write};
@@ -284,12 +285,12 @@ fn ending_twice_is_once() {
     }
 }
 
-/// Status bits that become ones, by a run, or zeros, by an acknowledgement.
+/// Status bits that become ones, by a run or a frame, or zeros, by an acknowledgement.
 type Event = (u8, bool);
 
 /// Makes some call on the bank, and answers what it must do to the status.
 fn any_call(random: &mut Random, bank: &mut Bank) -> Event {
-    match random.below(11) {
+    match random.below(13) {
         0 => {
             operate(bank, operation(random));
         }
@@ -322,12 +323,24 @@ fn any_call(random: &mut Random, bank: &mut Bank) -> Event {
             return (status_bit(end), true);
         }
         9 => drop_run(bank),
+        10 | 11 => return any_frame(random, bank),
         _ => {
             let in_both = status(bank) & bank.enable;
             assert_eq!(interrupt(bank), in_both != 0);
         }
     }
     (0, true)
+}
+
+/// The same of a frame, refused or not, of which the bank has a channel.
+fn any_frame(random: &mut Random, bank: &mut Bank) -> Event {
+    let list = match random.below(4) {
+        0 => list(random),
+        _ => bank.list[..bank.left as usize].to_vec(),
+    };
+    let guarantee = budget(random, &list);
+    let end = among_others(random, bank, &list, guarantee).result.end;
+    (status_bit(end), true)
 }
 
 /// The status that a fresh bank has after these, by the last that concerns each bit.

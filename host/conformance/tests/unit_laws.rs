@@ -1,6 +1,7 @@
 //! What the demands, paper 01 and request 01 of paper 02 say of the register unit,
 //! asked of the library; request 09, which sets a status bit by each run, in
-//! `status.rs`, request 10, by which a spent run waits, in `waiting.rs`.
+//! `status.rs`, request 10, by which a spent run waits, in `waiting.rs`, request 11, four
+//! channels in one frame, in `frames.rs`.
 
 use conformance::programs::{bank, cycles, program, FORMS};
 use conformance::samples::{for_each, for_each_permutation, Random};

@@ -3,15 +3,11 @@
 //! refused is in `refused_waiting.rs`.
 
 use conformance::arbitrary::{byte, list, operation, register};
+use conformance::frame::among_others;
 use conformance::programs::{bank, cycles, program, waiting_bank, Form, FORMS, LONGEST};
 use conformance::samples::Random;
 use conformance::unit::{acknowledge, enable, interrupt, operate, read, run, status, write};
-use conformance::unit::{continue_run, drop_run, lent, Bank, End, Operation, Run};
-
-/// The general and settings registers.
-fn registers(bank: &Bank) -> ([u64; 16], [u64; 3], [u64; 3]) {
-    (bank.general, bank.b, bank.ib)
-}
+use conformance::unit::{continue_run, drop_run, lent, registers, Bank, End, Operation, Run};
 
 /// What the bank remembers.
 fn remembered(bank: &Bank) -> (u8, u32, [u8; LONGEST]) {
@@ -363,10 +359,10 @@ fn a_refused_write_leaves_the_run_as_it_is() {
     }
 }
 
-/// Makes a call that leaves what is remembered as it is: every call but runs that are
-/// carried out, and drops.
+/// Makes a call that leaves what is remembered as it is: every call but runs and frames that
+/// are carried out, and drops.
 fn other_call(random: &mut Random, bank: &mut Bank) {
-    match random.below(9) {
+    match random.below(10) {
         0 => {
             operate(bank, operation(random));
         }
@@ -377,6 +373,10 @@ fn other_call(random: &mut Random, bank: &mut Bank) {
         2 => {
             let list = [&bank.list[..bank.left as usize], &[1, 0, 0, 0]].concat();
             continue_run(bank, &list, random.word() as u32);
+        }
+        9 => {
+            let list = [&bank.list[..bank.left as usize], &[1, 0, 0, 0]].concat();
+            among_others(random, bank, &list, 9);
         }
         3 => {
             read(bank, register(random));
@@ -526,19 +526,31 @@ fn banks_and_lists_apart_from_each_other() {
 /// Makes some call on the bank, which waits with this remainder or does not, and puts down
 /// what it must remember then.
 fn any_call(random: &mut Random, bank: &mut Bank, waits: &mut Option<Vec<u8>>) {
-    let (anew, list) = match random.below(8) {
+    let budget = random.below(9);
+    let (list, answer, turned_back) = match random.below(10) {
         0 => {
             drop_run(bank);
             *waits = None;
             return;
         }
         1 | 2 if waits.is_some() => return other_call(random, bank),
-        3 | 4 => (true, program(random, 8)),
-        _ => (false, waits.clone().unwrap_or_default()),
+        3 | 4 => {
+            let list = program(random, 8);
+            let answer = run(bank, &list, budget);
+            (list, answer, waits.is_some())
+        }
+        5 | 6 => {
+            let list = waits.clone().unwrap_or_else(|| program(random, 8));
+            let answer = among_others(random, bank, &list, budget);
+            (list, answer, false)
+        }
+        _ => {
+            let list = waits.clone().unwrap_or_default();
+            let answer = continue_run(bank, &list, budget);
+            (list, answer, waits.is_none())
+        }
     };
-    let call = if anew { run } else { continue_run };
-    let answer = call(bank, &list, random.below(9));
-    assert_eq!(answer.refusal == 14, anew == waits.is_some());
+    assert_eq!(answer.refusal, if turned_back { 14 } else { 0 });
     match answer.result.end {
         End::Refused => {}
         End::Done => *waits = None,
@@ -547,7 +559,7 @@ fn any_call(random: &mut Random, bank: &mut Bank, waits: &mut Option<Vec<u8>>) {
 }
 
 /// Over sequences of calls on a fresh bank: it waits since the last run, continued or not,
-/// that was carried out, if that ended spent and was not dropped.
+/// alone or in a frame, that was carried out, if that ended spent and was not dropped.
 #[test]
 fn a_bank_waits_since_the_last_spent_run() {
     let mut random = Random::default();

@@ -10,6 +10,7 @@
 
 pub mod bits;
 pub mod decoder;
+pub mod frame;
 pub mod gather;
 pub mod groups;
 pub mod network;

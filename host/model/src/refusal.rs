@@ -1,4 +1,4 @@
-//! Refused calls ("Calls turned back" of paper 01, requests 02, 05, 06 and 10 of
+//! Refused calls ("Calls turned back" of paper 01, requests 02, 05, 06, 10 and 11 of
 //! paper 02): the numbers, and the lowest of them.
 
 /// The answer's number where the call is carried out.
@@ -33,6 +33,8 @@ pub const SUBWORD: u8 = 12;
 pub const PLANE: u8 = 13;
 /// Paper 02: "another run waits, or none does, or the list is not the remainder"
 pub const WAITING: u8 = 14;
+/// Paper 02: "the guarantees sum above F"
+pub const FRAME: u8 = 15;
 
 /// The answer of a call.
 #[derive(Clone, Copy, Debug, PartialEq, Eq)]

@@ -147,7 +147,7 @@ pub fn run(bank: &mut Bank, list: &[u8], budget: u32) -> Answer<Run> {
 /// assert!(!waits(&bank));
 /// ```
 pub fn continue_run(bank: &mut Bank, list: &[u8], budget: u32) -> Answer<Run> {
-    let turned_back = !waits(bank) || remainder(bank) != Some(list);
+    let turned_back = !waits(bank) || is_no_remainder(bank, list);
     carry_out(bank, list, budget, turned_back)
 }
 
@@ -174,21 +174,36 @@ fn remainder(bank: &Bank) -> Option<&[u8]> {
     bank.list.get(..bank.left as usize)
 }
 
+/// Whether the list is not "the remembered remainder".
+pub(crate) fn is_no_remainder(bank: &Bank, list: &[u8]) -> bool {
+    remainder(bank) != Some(list)
+}
+
 /// A run, or a continued one: "the status bits of Req 09 count for continued runs."
 fn carry_out(bank: &mut Bank, list: &[u8], budget: u32, turned_back: bool) -> Answer<Run> {
-    let operations = list.chunks_exact(4);
-    let operations: Vec<Operation> = operations.map(|o| [o[0], o[1], o[2], o[3]]).collect();
-    let [kind, register] = conditions(&operations);
-    let length = list.len() % 4 != 0 || list.len() > LONGEST;
-    let conditions = [(LENGTH, length), kind, register, (WAITING, turned_back)];
-    let answer = Answer::of(&conditions, || perform_each(bank, &operations, budget));
-    set_status(bank, answer.result.end);
-    remember(bank, list, answer.result);
+    let conditions = list_conditions(list, turned_back);
+    let answer = Answer::of(&conditions, || {
+        perform_each(bank, &operations_of(list), budget)
+    });
+    end(bank, list, answer.result);
     answer
 }
 
+/// The operations of a list.
+pub(crate) fn operations_of(list: &[u8]) -> Vec<Operation> {
+    let operations = list.chunks_exact(4);
+    operations.map(|o| [o[0], o[1], o[2], o[3]]).collect()
+}
+
+/// What a run of this list is refused by, turned back by 14 or not.
+pub(crate) fn list_conditions(list: &[u8], turned_back: bool) -> [(u8, bool); 4] {
+    let [kind, register] = conditions(&operations_of(list));
+    let length = list.len() % 4 != 0 || list.len() > LONGEST;
+    [(LENGTH, length), kind, register, (WAITING, turned_back)]
+}
+
 /// Goes on while the next operation fits.
-fn perform_each(bank: &mut Bank, operations: &[Operation], budget: u32) -> Run {
+pub(crate) fn perform_each(bank: &mut Bank, operations: &[Operation], budget: u32) -> Run {
     let (mut ran, mut used) = (0, 0);
     for &operation in operations {
         if cycles(operation) > budget - used {
@@ -201,6 +216,12 @@ fn perform_each(bank: &mut Bank, operations: &[Operation], budget: u32) -> Run {
     }
     let (end, cycles) = (End::Done, used);
     Run { end, ran, cycles }
+}
+
+/// What the end of a run of this list leaves in the bank.
+pub(crate) fn end(bank: &mut Bank, list: &[u8], run: Run) {
+    set_status(bank, run.end);
+    remember(bank, list, run);
 }
 
 /// "A run that ends done sets status bit 0, one that ends spent sets bit 1, and a

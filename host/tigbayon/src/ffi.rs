@@ -114,6 +114,28 @@ pub struct TbRun {
     pub cycles: u32,
 }
 
+/// What a frame answers for one channel.
+#[repr(C)]
+#[derive(Clone, Copy, Debug, PartialEq, Eq)]
+pub struct TbChannel {
+    /// The number of its end; 0 where the frame is refused.
+    pub end: u8,
+    /// The count of operations run; 0 where the frame is refused.
+    pub ran: u32,
+    /// The cycles that these used; 0 where the frame is refused.
+    pub cycles: u32,
+}
+
+/// The answer of a frame.
+#[repr(C)]
+#[derive(Clone, Copy, Debug, PartialEq, Eq)]
+pub struct TbFrame {
+    /// The refusal's number, 0 where the frame is carried out.
+    pub refusal: u8,
+    /// The channels' answers, by their numbers; zeros where the frame is refused.
+    pub channels: [TbChannel; 4],
+}
+
 /// The answer of reading a register.
 #[repr(C)]
 #[derive(Clone, Copy, Debug, PartialEq, Eq)]
@@ -200,6 +222,18 @@ impl From<TbRun> for Result<Run, Refusal> {
     }
 }
 
+impl From<TbFrame> for Result<[Run; 4], Refusal> {
+    fn from(answer: TbFrame) -> Self {
+        Refusal::check(answer.refusal).map(|()| {
+            answer.channels.map(|channel| Run {
+                end: End::of(channel.end),
+                ran: channel.ran,
+                cycles: channel.cycles,
+            })
+        })
+    }
+}
+
 impl From<TbRegister> for Result<u64, Refusal> {
     fn from(answer: TbRegister) -> Self {
         Refusal::check(answer.refusal).map(|()| answer.value)
@@ -275,7 +309,7 @@ unsafe extern "C" {
 /// The calls of a permutation, of lists of words or of operations, which cross as
 /// pointers and lengths.
 mod by_pointer {
-    use super::{TbBank, TbControls1, TbControls2, TbMasks, TbPacked, TbRun};
+    use super::{TbBank, TbControls1, TbControls2, TbFrame, TbMasks, TbPacked, TbRun};
 
     #[allow(unsafe_code)]
     unsafe extern "C" {
@@ -322,6 +356,22 @@ mod by_pointer {
             length: usize,
             budget: u32,
         ) -> TbRun;
+        pub fn tb_frame(
+            bank0: &mut TbBank,
+            bank1: &mut TbBank,
+            bank2: &mut TbBank,
+            bank3: &mut TbBank,
+            list0: *const u8,
+            length0: usize,
+            list1: *const u8,
+            length1: usize,
+            list2: *const u8,
+            length2: usize,
+            list3: *const u8,
+            length3: usize,
+            guarantees: &[u32; 4],
+            cycles: u32,
+        ) -> TbFrame;
     }
 }
 
@@ -423,4 +473,35 @@ pub fn tb_run(bank: &mut TbBank, operations: &[u8], budget: u32) -> TbRun {
 pub fn tb_continue(bank: &mut TbBank, operations: &[u8], budget: u32) -> TbRun {
     // Safe, as in tb_run.
     unsafe { by_pointer::tb_continue(bank, operations.as_ptr(), operations.len(), budget) }
+}
+
+/// See [`crate::frame()`].
+#[allow(unsafe_code)]
+pub fn tb_frame(
+    banks: [&mut TbBank; 4],
+    lists: [&[u8]; 4],
+    guarantees: &[u32; 4],
+    cycles: u32,
+) -> TbFrame {
+    let [bank0, bank1, bank2, bank3] = banks;
+    // Safe: answered for every four slices, which no bank overlaps; they and the
+    // guarantees are only read. The banks are different ones. Nothing is kept.
+    unsafe {
+        by_pointer::tb_frame(
+            bank0,
+            bank1,
+            bank2,
+            bank3,
+            lists[0].as_ptr(),
+            lists[0].len(),
+            lists[1].as_ptr(),
+            lists[1].len(),
+            lists[2].as_ptr(),
+            lists[2].len(),
+            lists[3].as_ptr(),
+            lists[3].len(),
+            guarantees,
+            cycles,
+        )
+    }
 }

@@ -15,10 +15,11 @@
 //! other from the top, and [`despeckle`] puts out its lone pixels. A [`Bank`] holds the
 //! registers of a unit that performs lists of operations of width 64, two bytes by
 //! which their ends are polled, and what is left of a list while it waits for a fresh
-//! budget. Each function here is answered for every input: with its
+//! budget; [`frame`] runs four of them on one count of cycles. Each function here is answered for every input: with its
 //! result, or with the lowest [`Refusal`] that applies.
 
 mod ffi;
+mod frame;
 mod gather;
 mod network;
 mod packing;
@@ -34,14 +35,15 @@ mod unit;
 #[doc(hidden)]
 pub use ffi::{
     tb_acknowledge, tb_butterfly, tb_butterfly_prepared, tb_check, tb_continue, tb_decode,
-    tb_despeckle, tb_drop, tb_enable, tb_exchange, tb_excheck, tb_from_planes, tb_gather, tb_group,
-    tb_interrupt, tb_inverse, tb_inverse_prepared, tb_mix_left, tb_mix_right, tb_operate, tb_pack,
-    tb_prepare_butterfly, tb_prepare_inverse, tb_read, tb_route, tb_route_butterfly,
+    tb_despeckle, tb_drop, tb_enable, tb_exchange, tb_excheck, tb_frame, tb_from_planes, tb_gather,
+    tb_group, tb_interrupt, tb_inverse, tb_inverse_prepared, tb_mix_left, tb_mix_right, tb_operate,
+    tb_pack, tb_prepare_butterfly, tb_prepare_inverse, tb_read, tb_route, tb_route_butterfly,
     tb_route_groups, tb_route_inverse, tb_run, tb_scatter, tb_status, tb_tile_mirror_columns,
     tb_tile_mirror_rows, tb_tile_transpose, tb_tile_turn_left, tb_tile_turn_right, tb_to_planes,
-    tb_unpack, tb_write, TbBank, TbCarried, TbControls1, TbControls2, TbCycles, TbGathered,
-    TbMasks, TbPacked, TbPlanes, TbPrepared, TbRegister, TbRun,
+    tb_unpack, tb_write, TbBank, TbCarried, TbChannel, TbControls1, TbControls2, TbCycles, TbFrame,
+    TbGathered, TbMasks, TbPacked, TbPlanes, TbPrepared, TbRegister, TbRun,
 };
+pub use frame::frame;
 pub use gather::{gather, group, scatter, Gathered};
 pub use network::{butterfly, decode, inverse, Controls, Decoded};
 pub use packing::{pack, unpack, Packed};

@@ -40,11 +40,13 @@ pub enum Refusal {
     Plane = 13,
     /// Another run waits, or none does, or the list is not the remainder.
     Waiting = 14,
+    /// The guarantees of the four channels sum above the cycles of the frame.
+    Frame = 15,
 }
 
 impl Refusal {
     /// Every refusal, by rising number.
-    pub const ALL: [Refusal; 14] = [
+    pub const ALL: [Refusal; 15] = [
         Refusal::Width,
         Refusal::Above,
         Refusal::Unused,
@@ -59,6 +61,7 @@ impl Refusal {
         Refusal::Subword,
         Refusal::Plane,
         Refusal::Waiting,
+        Refusal::Frame,
     ];
 
     /// The number, which is part of the interface.
@@ -88,6 +91,7 @@ impl Refusal {
             Refusal::Subword => "subword size not 1, 2, 4, 8, 16, 32",
             Refusal::Plane => "no rows, no words in a row, or the plane's length not their product",
             Refusal::Waiting => "another run waits, or none does, or the list is not the remainder",
+            Refusal::Frame => "the guarantees sum above the cycles of the frame",
         }
     }
 

@@ -23,11 +23,11 @@ use crate::{ffi, Refusal};
 /// A byte that has no meaning there is not looked at. Kinds 6, 7 and 10 write the
 /// word alone, no count.
 ///
-/// Only [`run`](Bank::run()), [`continue_run`](Bank::continue_run()) and
-/// [`acknowledge`](Bank::acknowledge()) change the status byte, only
-/// [`enable`](Bank::enable()) the enable byte.
+/// Only [`run`](Bank::run()), [`continue_run`](Bank::continue_run()),
+/// [`frame`](crate::frame()) and [`acknowledge`](Bank::acknowledge()) change the status
+/// byte, only [`enable`](Bank::enable()) the enable byte.
 ///
-/// A run that ends spent waits, until it is continued to its end or
+/// A run that ends spent waits, until it is continued to its end, alone or in a frame, or
 /// [dropped](Bank::drop_run()); operations and other runs are refused meanwhile. What
 /// [`write`](Bank::write()) writes meanwhile the operations still to come see, as if it
 /// stood in the list there.
@@ -80,7 +80,7 @@ pub enum End {
     Spent = 2,
 }
 
-/// What a run did, or a continued one by this call.
+/// What a run did, or a continued one by this call, or a channel of a frame.
 #[derive(Clone, Copy, Debug, PartialEq, Eq, Hash)]
 pub struct Run {
     /// How it ended.

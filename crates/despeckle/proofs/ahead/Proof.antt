@@ -1,6 +1,6 @@
 -- `despeckle::ahead` meets its contract. Assumes nothing.
 use borrow.Author.Needs.{needs}
-use Rattle.despeckle.proofs.Frame.{word-ahead}
+use Rattle.despeckle.proofs.Border.{word-ahead}
 use Rattle.despeckle.proofs.ahead.Statement.{statement}
 use Rattle.despeckle.proofs.ahead.Tie as tie
 

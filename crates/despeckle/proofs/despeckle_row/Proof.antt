@@ -7,8 +7,8 @@ use lib.ListN.{length, length-set}
 use borrow.Author.Needs.{needs}
 use Rattle.bits.specs.Bit.{overwritten}
 use Rattle.bits.proofs.FilledLists.{fill-next}
-use Rattle.despeckle.specs.Plane.{framed, around, newWord}
-use Rattle.despeckle.proofs.Frame.{index-lt}
+use Rattle.despeckle.specs.Plane.{bordered, around, newWord}
+use Rattle.despeckle.proofs.Border.{index-lt}
 use Rattle.despeckle.proofs.Sliding.{window-lt}
 use Rattle.despeckle.proofs.Rows.{number-next, word-passed}
 use Rattle.despeckle.proofs.despeckle_row.Statement.{statement}
@@ -56,7 +56,7 @@ slide-word-requires : tie.Need-slide-word-requires Inv-loop μ-loop
 slide-word-requires c κs =
     let b = c .before .before .before .before .before .before .before .before in
     let l = c .before .before .before .before .loop in
-    (b .pre .0, omega (arith, l .inv .2, window-lt (framed (b .args .plane .now) (b .args .words) (b .args .rows)) (b .args .row) (64 * l .at)))
+    (b .pre .0, omega (arith, l .inv .2, window-lt (bordered (b .args .plane .now) (b .args .words) (b .args .rows)) (b .args .row) (64 * l .at)))
 
 -- there is room for the word
 write-at : (c : tie.After-slide-word Inv-loop μ-loop)

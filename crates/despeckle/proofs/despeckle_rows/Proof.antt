@@ -9,7 +9,7 @@ use Rattle.bits.specs.Bit.{overwritten}
 use Rattle.bits.proofs.FilledLists.{fill-none}
 use Rattle.despeckle.specs.Plane.{newWord}
 use Rattle.despeckle.specs.Window.{IsTable}
-use Rattle.despeckle.proofs.Frame.{row-end}
+use Rattle.despeckle.proofs.Border.{row-end}
 use Rattle.despeckle.proofs.Sliding.{rule-at}
 use Rattle.despeckle.proofs.despeckle_rows.Statement.{statement}
 use Rattle.despeckle.proofs.despeckle_rows.Tie as tie

@@ -1,6 +1,6 @@
 -- `despeckle::first_number` meets its contract. Assumes nothing.
 use borrow.Author.Needs.{needs}
-use Rattle.despeckle.proofs.Frame.{first-window}
+use Rattle.despeckle.proofs.Border.{first-window}
 use Rattle.despeckle.proofs.first_number.Statement.{statement}
 use Rattle.despeckle.proofs.first_number.Tie as tie
 

@@ -4,7 +4,7 @@ use Prim.Native.Nat.{_+_, _-_, _*_, _<_}
 use native.Mathlib.Omega.{arith}
 use lib.ListN.{length}
 use borrow.Author.Needs.{needs}
-use Rattle.despeckle.proofs.Frame.{index-lt, word-over, word-under, word-beside, word-within}
+use Rattle.despeckle.proofs.Border.{index-lt, word-over, word-under, word-beside, word-within}
 use Rattle.despeckle.proofs.word_at.Statement.{statement}
 use Rattle.despeckle.proofs.word_at.Tie as tie
 

@@ -2,16 +2,14 @@
 
 use crate::answer::Answer;
 use crate::args::Given;
+use crate::bank::{ended, polled, told};
 use crate::command::{Argument, Choice, Command, Example};
 use crate::failure::Failure;
-use crate::number::{hex, list, Base};
+use crate::number::Base;
 use crate::turns::{Plan, WRITE};
-use tigbayon::{Bank, End, Refusal, Run};
+use tigbayon::{Bank, Refusal, Run};
 
 const OPERATIONS: &str = "OPERATIONS..";
-
-/// What the bits of the status byte tell of a run, from bit 0.
-const STATUS_BITS: [&str; 3] = ["done", "spent", "refused"];
 
 /// Run.
 pub const RUN: Command = Command {
@@ -171,10 +169,7 @@ fn run(given: &Given) -> Result<Answer, Failure> {
             Ok(Answer::of(outcome(&plan, &turns, &bank) + &not_needed))
         }
         Err(failure) if turns.is_empty() => Err(failure.above(polled(&bank))),
-        Err(failure) => {
-            let so_far = outcome(&plan, &turns, &bank);
-            Err(failure.above(so_far.trim_end().to_string()))
-        }
+        Err(failure) => Err(failure.above(outcome(&plan, &turns, &bank))),
     }
 }
 
@@ -188,78 +183,5 @@ fn outcome(plan: &Plan, turns: &[Run], bank: &Bank) -> String {
             turn
         }
     });
-    let left = registers(bank) + &remainder(bank);
-    let lines = answers.chain([polled(bank), left]);
-    Vec::from_iter(lines).join("\n")
-}
-
-/// How a run ended.
-fn ended(run: Run) -> String {
-    let end = match run.end {
-        End::Done => "done",
-        End::Spent => "spent",
-    };
-    format!("{end}, {} run, {} cycles", run.ran, run.cycles)
-}
-
-/// The status byte as it reads, and the interrupt line.
-fn polled(bank: &Bank) -> String {
-    let status = bank.status();
-    let bits = (0..).zip(STATUS_BITS);
-    let ones = bits.filter(|(bit, _)| status >> bit & 1 == 1);
-    let names = Vec::from_iter(ones.map(|(_, name)| name)).join(", ");
-    let line = if bank.interrupt() { "high" } else { "low" };
-    let status = hex(status.into());
-    format!("status {status} ({names}), interrupt line {line}")
-}
-
-/// A line for each register that is not zero.
-fn registers(bank: &Bank) -> String {
-    let groups: [(&str, usize, &[u64]); 3] = [
-        ("register ", 0, &bank.general),
-        ("b", 1, &bank.b),
-        ("ib", 1, &bank.ib),
-    ];
-    let mut lines = String::new();
-    for (name, first, values) in groups {
-        let numbered = (first..).zip(values);
-        for (number, &value) in numbered.filter(|(_, &value)| value != 0) {
-            lines += &format!("{name}{number} = {}\n", hex(value));
-        }
-    }
-    lines
-}
-
-/// If the run waits, a line for how much is left, and one for the operations.
-fn remainder(bank: &Bank) -> String {
-    let Some(bytes) = bank.remainder() else {
-        return String::new();
-    };
-    let operations = list(bytes.iter().map(u8::to_string));
-    let (left, length) = (bytes.len() / 4, bytes.len());
-    format!("waits, {left} left to run, {length} bytes\nremainder {operations}\n")
-}
-
-#[cfg(test)]
-mod tests {
-    use super::*;
-
-    /// Bits 3 to 7 are not shown, and do not raise the line.
-    #[test]
-    fn the_status_is_shown_as_it_reads() {
-        for (status, enable, shown, line) in [
-            (0x1, 0x6, "0x1 (done)", "low"),
-            (0x5, 0x4, "0x5 (done, refused)", "high"),
-            (0xFF, 0x2, "0x7 (done, spent, refused)", "high"),
-            (0xFA, 0xF8, "0x2 (spent)", "low"),
-        ] {
-            let bank = Bank {
-                status,
-                enable,
-                ..Bank::default()
-            };
-            let expected = format!("status {shown}, interrupt line {line}");
-            assert_eq!(polled(&bank), expected);
-        }
-    }
+    told(answers, bank, &Bank::default())
 }

@@ -37,6 +37,11 @@ pub fn ends(switch: Switch, x: &Range<i32>, y: impl Fn(u32) -> i32) -> String {
     dots.concat()
 }
 
+/// A rectangle with its top left at this place.
+pub fn block((x, y): (i32, i32), (width, height): (i32, i32)) -> String {
+    format!("M{x} {y}h{width}v{height}h-{width}z")
+}
+
 /// The head of an arrow to the right, twice as high as it is long.
 pub fn head(x: i32, y: i32, length: i32) -> String {
     format!("M{x} {}v{}l{length} -{length}z", y - length, 2 * length)

@@ -1,5 +1,6 @@
 //! The legend of SVG drawings.
 
+use super::bars::Part;
 use super::canvas::{fill, stroke, Anchor, Canvas, ROUND};
 use super::palette::{INK, PASS, PATH, QUIET, SHEET, SWAP};
 use super::{curves, groups, pixels, Drawing};
@@ -9,7 +10,7 @@ use crate::number::hex;
 /// How wide the sign before a text is.
 const SIGN: i32 = 30;
 /// About how wide a letter is.
-const LETTER: i32 = 7;
+pub const LETTER: i32 = 7;
 /// How high and wide a pixel is.
 const PIXEL: i32 = 12;
 /// Between an entry and the next.
@@ -31,6 +32,7 @@ enum Sign {
     Mark,
     Lit,
     Out,
+    Cell(Part),
 }
 
 /// The entries for what a drawing shows, from this place on.
@@ -61,6 +63,17 @@ pub fn of_groups(drawing: &groups::Drawing, start: i32) -> Vec<Entry> {
 /// The entries for pixels, whose signs are narrower, from this place on.
 pub fn of_pixels(start: i32) -> Vec<Entry> {
     let signs = [(Sign::Lit, "lit"), (Sign::Out, "went out")];
+    of_squares(signs, start)
+}
+
+/// The entries for the parts of bars, likewise.
+pub fn of_bars(start: i32) -> Vec<Entry> {
+    let signs = Part::ALL.map(|part| (Sign::Cell(part), part.meaning()));
+    of_squares(signs, start)
+}
+
+/// The entries of signs that are as wide as a pixel.
+fn of_squares<const N: usize>(signs: [(Sign, &str); N], start: i32) -> Vec<Entry> {
     let signs = signs.map(|(sign, text)| (sign, text.to_string()));
     entries(signs, start - (SIGN - PIXEL))
 }
@@ -104,6 +117,10 @@ impl Entry {
             }
             Sign::Out => {
                 canvas.path(&pixels::out(PIXEL), &pixels::ring(self.pixel(y), PIXEL));
+            }
+            Sign::Cell(part) => {
+                let (_, colour) = part.class_and_colour();
+                canvas.path(&fill(colour), &pixels::square(self.pixel(y), PIXEL));
             }
         }
         let place = (self.x + SIGN + 10, y + 4);

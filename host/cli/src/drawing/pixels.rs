@@ -4,7 +4,7 @@
 use super::canvas::{fill, stroke, Anchor, Canvas};
 use super::layout::MARGIN;
 use super::palette::{BAND, INK, MONO, PATH, QUIET, RULE, SANS, SHEET};
-use super::{legend, words, Caption};
+use super::{curves, legend, words, Caption};
 use crate::plane::{Despeckled, Pixel};
 
 /// The pictures, each with whether it shows the plane after the call.
@@ -196,8 +196,8 @@ pub fn out(size: i32) -> String {
 }
 
 /// A pixel with its top left at this place.
-pub fn square((x, y): (i32, i32), size: i32) -> String {
-    format!("M{x} {y}h{size}v{size}h-{size}z")
+pub fn square(place: (i32, i32), size: i32) -> String {
+    curves::block(place, (size, size))
 }
 
 /// The middle of the line around a pixel that went out.

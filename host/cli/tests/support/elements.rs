@@ -48,6 +48,32 @@ impl Element {
         }
         lines
     }
+
+    /// The rectangles of a path, each of which goes right, down, left and back.
+    pub fn blocks(&self) -> Vec<Block> {
+        let blocks = self.attributes["d"].split('M').skip(1).map(|block| {
+            let (place, ways) = block.split_once('h').unwrap();
+            let (x, y) = place.split_once(' ').unwrap();
+            let (width, ways) = ways.split_once('v').unwrap();
+            let (height, back) = ways.split_once("h-").unwrap();
+            assert_eq!(back.strip_suffix('z'), Some(width), "{block}");
+            let [x, y, width, height] = [x, y, width, height].map(|text| text.parse().unwrap());
+            Block {
+                place: (x, y),
+                size: (width, height),
+            }
+        });
+        blocks.collect()
+    }
+}
+
+/// A rectangle of a path.
+#[derive(Clone, Copy, Debug, PartialEq, Eq)]
+pub struct Block {
+    /// Its top left.
+    pub place: Point,
+    /// Its width and height.
+    pub size: Point,
 }
 
 /// The elements of a drawing, which must be well-formed.

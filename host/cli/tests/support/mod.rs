@@ -2,14 +2,17 @@
 
 #![allow(dead_code, reason = "no test file uses all of it")]
 
+pub mod areas;
 pub mod drawn;
 pub mod elements;
+pub mod frames;
 pub mod groups;
 pub mod wires;
 
 use std::fs;
+use std::io::Write;
 use std::path::{Path, PathBuf};
-use std::process::Command;
+use std::process::{Command, Output, Stdio};
 
 /// What a command line did.
 #[derive(Debug, PartialEq, Eq)]
@@ -22,6 +25,23 @@ pub struct Outcome {
     pub error: String,
 }
 
+impl Outcome {
+    /// Asserts that the arguments were not read, and that the message holds these words
+    /// and the hint.
+    pub fn assert_unread(&self, words: &str) {
+        let Outcome {
+            status,
+            output,
+            error,
+        } = self;
+        assert_eq!((*status, output.as_str()), (1, ""), "{error}");
+        assert!(error.contains(words), "{words}: {error}");
+        let hint = error.lines().last().unwrap();
+        assert!(hint.starts_with("see tigbayon"), "{error}");
+        assert!(hint.ends_with("--help"), "{error}");
+    }
+}
+
 /// The command line, with these arguments.
 pub fn command(args: &[&str]) -> Command {
     let mut command = Command::new(env!("CARGO_BIN_EXE_tigbayon"));
@@ -31,7 +51,20 @@ pub fn command(args: &[&str]) -> Command {
 
 /// Runs a command.
 pub fn outcome(command: &mut Command) -> Outcome {
-    let done = command.output().unwrap();
+    read(command.output().unwrap())
+}
+
+/// Runs the command line with these arguments, on this standard input.
+pub fn run_on(args: &[&str], input: &str) -> Outcome {
+    let mut command = command(args);
+    let outputs = command.stdout(Stdio::piped()).stderr(Stdio::piped());
+    let mut child = outputs.stdin(Stdio::piped()).spawn().unwrap();
+    // It need not be read where the arguments are not.
+    let _ = child.stdin.take().unwrap().write_all(input.as_bytes());
+    read(child.wait_with_output().unwrap())
+}
+
+fn read(done: Output) -> Outcome {
     let [output, error] = [done.stdout, done.stderr].map(|text| String::from_utf8(text).unwrap());
     let status = done.status.code().unwrap();
     Outcome {
@@ -65,16 +98,7 @@ pub fn prints(args: &[&str]) -> String {
 /// Asserts that the arguments are not read, and that the message holds these
 /// words and the hint.
 pub fn assert_unread(args: &[&str], words: &str) {
-    let Outcome {
-        status,
-        output,
-        error,
-    } = run(args);
-    assert_eq!((status, output.as_str()), (1, ""), "{args:?}");
-    assert!(error.contains(words), "{args:?}: {error}");
-    let hint = error.lines().last().unwrap();
-    assert!(hint.starts_with("see tigbayon"), "{args:?}: {error}");
-    assert!(hint.ends_with("--help"), "{args:?}: {error}");
+    run(args).assert_unread(words);
 }
 
 /// An empty folder for the files of the test of this name.

@@ -33,6 +33,10 @@ static void print_layouts(void)
            AT(TbCycles, cycles));
     printf("TbRun %u %u: %u %u %u %u\n", LAYOUT(TbRun), AT(TbRun, refusal), AT(TbRun, end),
            AT(TbRun, ran), AT(TbRun, cycles));
+    printf("TbChannel %u %u: %u %u %u\n", LAYOUT(TbChannel), AT(TbChannel, end),
+           AT(TbChannel, ran), AT(TbChannel, cycles));
+    printf("TbFrame %u %u: %u %u\n", LAYOUT(TbFrame), AT(TbFrame, refusal),
+           AT(TbFrame, channels));
     printf("TbRegister %u %u: %u %u\n", LAYOUT(TbRegister), AT(TbRegister, refusal),
            AT(TbRegister, value));
 }
@@ -389,6 +393,71 @@ static void print_waiting(void)
     print_waits(&bank);
 }
 
+/* The list of a channel. */
+typedef struct {
+    const uint8_t *list;
+    size_t length;
+} Lent;
+
+static void print_frame(TbBank banks[4], const Lent lent[4], const uint32_t guarantees[4],
+                        uint32_t cycles)
+{
+    const TbFrame answer =
+        tb_frame(&banks[0], &banks[1], &banks[2], &banks[3], lent[0].list, lent[0].length,
+                 lent[1].list, lent[1].length, lent[2].list, lent[2].length, lent[3].list,
+                 lent[3].length, guarantees, cycles);
+    int i;
+
+    printf("frame %u:", (unsigned)answer.refusal);
+    for (i = 0; i < 4; i++) {
+        const TbChannel channel = answer.channels[i];
+        printf(" %u %" PRIu32 " %" PRIu32 " %x,", (unsigned)channel.end, channel.ran,
+               channel.cycles, (unsigned)banks[i].status);
+    }
+    printf(" %" PRIx64 " %" PRIx64 "\n", banks[0].general[1], banks[2].general[1]);
+}
+
+static void print_frames(void)
+{
+    const TbBank fresh = {{0}, {0}, {0}, 0, 0, 0, 0, {0}};
+    const TbFrame sizes = {0, {{0, 0, 0}, {0, 0, 0}, {0, 0, 0}, {0, 0, 0}}};
+    const uint8_t list[8] = {8, 0, 0, 3, 3, 1, 2, 3};
+    const uint8_t no_kind[4] = {0, 0, 0, 0};
+    const Lent two[4] = {{list, 8}, {NULL, 0}, {list, 8}, {no_kind, 0}};
+    const Lent refused[4] = {{list, 8}, {NULL, 0}, {list, 8}, {no_kind, 4}};
+    const Lent half[4] = {{NULL, 0}, {NULL, 0}, {list + 4, 4}, {NULL, 0}};
+    const Lent others[4] = {{NULL, 0}, {list, 8}, {list, 8}, {NULL, 0}};
+    const uint32_t first[4] = {2, 1, 1, 0};
+    const uint32_t second[4] = {0, 1, 2, 0};
+    const uint32_t large[4] = {0, 0, 0, 70000};
+    const uint32_t wrapping[4] = {0, UINT32_MAX, UINT32_MAX, 2};
+    TbBank banks[4];
+    int i;
+
+    printf("sizes %u %u %u %u\n", (unsigned)sizeof sizes.refusal,
+           (unsigned)sizeof sizes.channels[0].end, (unsigned)sizeof sizes.channels[0].ran,
+           (unsigned)sizeof sizes.channels[0].cycles);
+    for (i = 0; i < 4; i++) {
+        banks[i] = fresh;
+        banks[i].general[2] = 0xB6;
+        banks[i].general[3] = 0xAD;
+    }
+    print_frame(banks, two, first, 3);
+    print_frame(banks, refused, first, 3);
+    print_frame(banks, two, first, 4);
+    print_waits(&banks[0]);
+    print_waits(&banks[2]);
+    print_frame(banks, half, first, UINT32_MAX);
+    print_frame(banks, others, second, UINT32_MAX);
+    print_waits(&banks[1]);
+    print_frame(banks, others, large, 70000);
+    print_frame(banks, others, wrapping, 5);
+    printf("list:");
+    print_bytes(list);
+    printf("guarantees: %" PRIu32 " %" PRIu32 " %" PRIu32 " %" PRIu32 "\n", wrapping[0],
+           wrapping[1], wrapping[2], wrapping[3]);
+}
+
 static void print_polled(const char *call, const TbBank *bank)
 {
     printf("%s: %x %x: %x %u\n", call, (unsigned)bank->status, (unsigned)bank->enable,
@@ -428,11 +497,11 @@ int main(void)
     const TbControls2 decoded = tb_decode(8, 0xAD);
 
     print_layouts();
-    printf("numbers %d %d %d %d %d %d %d %d %d %d %d %d %d %d %d\n", TB_CARRIED_OUT,
+    printf("numbers %d %d %d %d %d %d %d %d %d %d %d %d %d %d %d %d\n", TB_CARRIED_OUT,
            TB_REFUSAL_WIDTH, TB_REFUSAL_ABOVE, TB_REFUSAL_UNUSED, TB_REFUSAL_LENGTH,
            TB_REFUSAL_ENTRY, TB_REFUSAL_NOT_REALISED, TB_REFUSAL_KIND, TB_REFUSAL_REGISTER,
            TB_REFUSAL_RANGE, TB_REFUSAL_SHORT, TB_REFUSAL_SPARE, TB_REFUSAL_SUBWORD,
-           TB_REFUSAL_PLANE, TB_REFUSAL_WAITING);
+           TB_REFUSAL_PLANE, TB_REFUSAL_WAITING, TB_REFUSAL_FRAME);
     print_gathered("gather", tb_gather(8, 0xAD, 0xB6));
     print_gathered("scatter", tb_scatter(8, 0xAD, 0x1A));
     print_gathered("group", tb_group(8, 0xAD, 0xB6));
@@ -458,6 +527,7 @@ int main(void)
     print_pixels();
     print_unit();
     print_waiting();
+    print_frames();
     print_polling();
     return 0;
 }

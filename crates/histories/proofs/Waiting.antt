@@ -1,5 +1,5 @@
 -- Req 10: what a bank remembers, and how long. Assumes nothing.
-use mathlib.Core.Path.{_≡_, refl, sym, _∙_, ap, subst}
+use mathlib.Core.Path.{_≡_, refl, sym, _∙_, ap, subst, subst⁻¹}
 use mathlib.Core.Bool.{Bool, true, false, not, cond, true≢false}
 use mathlib.Core.List.{List, [], _∷_, _++_}
 use mathlib.Core.Logic.{_↔_}
@@ -18,16 +18,17 @@ use Rattle.unit.specs.Operation.{cyclesOf, operationRefusal, loadOf, effectOf, 
 use Rattle.unit.specs.Calls.{operateOf, numberRefusal, writeOf, writeLent}
 use Rattle.unit.specs.Lent.{bare, carrying}
 use Rattle.unit.proofs.Carried.{operate-words, write-words}
 use Rattle.runs.specs.declared.Turn.{Turn}
 use Rattle.runs.specs.declared.Outcome.{Outcome}
 use Rattle.runs.specs.StatusByte.{withBit}
 use Rattle.runs.specs.Run.{operationsOf, stepsOf, sumOf, ranOf, anyKind, anyRegister, runRefusal, turnOf, reaching, endOf, noted, remembering, dropOf, dropLent, outcomeOf, performOf, runOf, same, isRemainder, continues, continueOf}
-use Rattle.runs.specs.BankCalls.{BankCall, callLook, callOperate, callRun, callContinue, callDrop, callWrite, callEnable, callAcknowledge, leftBy}
-use Rattle.runs.specs.Continued.{remainderOf, writesLent, Ending, WaitsAlike}
+use Rattle.histories.specs.BankCalls.{BankCall, callLook, callOperate, callRun, callContinue, callDrop, callFrame, callWrite, callEnable, callAcknowledge, leftBy}
+use Rattle.histories.specs.Continued.{remainderOf, writesLent, Ending, WaitsAlike}
 use Rattle.runs.proofs.OperationLists.{run-alone}
 use Rattle.runs.proofs.Remainders.{same-eq, same-refl}
 use Rattle.runs.proofs.BytesKept.{steps-carry}
-use Rattle.runs.proofs.Theorems.{perform-is, perform-not, run-ample}
+use Rattle.histories.proofs.Runs.{perform-is, perform-not, run-ample}
+use Rattle.histories.proofs.Frames.{refused-in}
 
 -- A fresh bank does not wait.
 pub fresh-waits-not : waits fresh ≡ false
@@ -120,6 +121,8 @@ waiting-kept k (callRun bytes budget) w n =
     refused-alike (waits (k .registers)) k bytes budget (λ e. true≢false (sym w ∙ run-alone (waits (k .registers)) bytes e))
 waiting-kept k (callContinue bytes budget) w n = refused-alike (not (continues k bytes)) k bytes budget n
 waiting-kept k callDrop w n = absurd (n tt)
+waiting-kept k (callFrame before after bytes guarantee cycles) w n =
+    subst⁻¹ (WaitsAlike k) (refused-in before after (record { bank = k; bytes = bytes; guarantee = guarantee }) cycles n) (record { waiting = refl; left = refl; list = refl })
 waiting-kept k (callWrite number v) w n = carried-alike k (write-words (k .registers) number v)
 waiting-kept k (callEnable e) w n = record { waiting = refl; left = refl; list = refl }
 waiting-kept k (callAcknowledge m) w n = record { waiting = refl; left = refl; list = refl }

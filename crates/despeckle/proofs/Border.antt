@@ -1,4 +1,4 @@
--- Laws of a plane's pixels and its dark frame, and its words by their pixels. Assumes nothing.
+-- Laws of a plane's pixels and its dark border, and its words by their pixels. Assumes nothing.
 use mathlib.Core.Path.{_≡_, refl, sym, _∙_, ap, ap₂}
 use mathlib.Core.Bool.{Bool, true, false, cond, _&&_}
 use mathlib.Core.List.{List}
@@ -13,7 +13,7 @@ use lib.ListN.{getD}
 use borrow.Author.Tests.{lt-ltb, le-ltb}
 use Rattle.bits.specs.Bit.{bit, ofBits}
 use Rattle.bits.proofs.Word.{bit-lt, bit-of-zero, bit-or, bit-shr, bit-above, bit-shl-below, bit-shl-from}
-use Rattle.despeckle.specs.Plane.{pixel, framed, window, around}
+use Rattle.despeckle.specs.Plane.{pixel, bordered, window, around}
 use Rattle.despeckle.proofs.Sliding.{three-joined}
 
 -- where a word of a row stands
@@ -50,30 +50,30 @@ module _ (ws : List ℕ) (v h : ℕ) where
       neither true = refl
       neither false = refl
 
-  -- the frame counts rows and columns from 1
+  -- the border counts rows and columns from 1
 
-  pub framed-is : (y x : ℕ) → 0 < y → 0 < x → framed ws v h y x ≡ pixel ws v h (y - 1) (x - 1)
-  unfolding framed
-  framed-is (suc y) (suc x) a b =
+  pub bordered-is : (y x : ℕ) → 0 < y → 0 < x → bordered ws v h y x ≡ pixel ws v h (y - 1) (x - 1)
+  unfolding bordered
+  bordered-is (suc y) (suc x) a b =
       let p : y ≡ suc y - 1 = omega arith in
       let q : x ≡ suc x - 1 = omega arith in
       ap₂ (pixel ws v h) p q
-  framed-is zero x a b = absurd (omega arith)
-  framed-is (suc y) zero a b = absurd (omega arith)
+  bordered-is zero x a b = absurd (omega arith)
+  bordered-is (suc y) zero a b = absurd (omega arith)
 
-  pub framed-lt : (y x : ℕ) → framed ws v h y x < 2
-  unfolding framed
-  framed-lt zero x = omega arith
-  framed-lt (suc y) zero = omega arith
-  framed-lt (suc y) (suc x) = pixel-lt y x
+  pub bordered-lt : (y x : ℕ) → bordered ws v h y x < 2
+  unfolding bordered
+  bordered-lt zero x = omega arith
+  bordered-lt (suc y) zero = omega arith
+  bordered-lt (suc y) (suc x) = pixel-lt y x
 
-  -- what is lit in the frame lies in the plane
-  pub framed-lit : (y x : ℕ) → framed ws v h y x ≡ 1
+  -- what is lit in the border lies in the plane
+  pub bordered-lit : (y x : ℕ) → bordered ws v h y x ≡ 1
       → (up : ℕ) × (left : ℕ) × (y ≡ up + 1) × (x ≡ left + 1) × (up < h) × (left < 64 * v) × (pixel ws v h up left ≡ 1)
-  unfolding framed
-  framed-lit zero x e = absurd (omega (arith, e))
-  framed-lit (suc y) zero e = absurd (omega (arith, e))
-  framed-lit (suc y) (suc x) e = (y, x, omega arith, omega arith, below (decLt y h), before (decLt x (64 * v)), e)
+  unfolding bordered
+  bordered-lit zero x e = absurd (omega (arith, e))
+  bordered-lit (suc y) zero e = absurd (omega (arith, e))
+  bordered-lit (suc y) (suc x) e = (y, x, omega arith, omega arith, below (decLt y h), before (decLt x (64 * v)), e)
     where
       below : Dec (y < h) → y < h
       below (yes l) = l
@@ -83,47 +83,47 @@ module _ (ws : List ℕ) (v h : ℕ) where
       before (yes l) = l
       before (no l) = absurd (omega (arith, e, pixel-beside y x (omega arith)))
 
-  -- Word `at` of a row of the frame, by its bits: those outside the plane are dark.
+  -- Word `at` of a row of the border, by its bits: those outside the plane are dark.
   module _ (row at : ℕ) where
-    pub word-over : row ≡ 0 → (k : ℕ) → k < 64 → bit 0 k ≡ framed ws v h row (64 * at + (64 - k))
-    unfolding framed
-    word-over e k l = bit-of-zero k ∙ sym (ap (λ (r : ℕ). framed ws v h r (64 * at + (64 - k))) e)
+    pub word-over : row ≡ 0 → (k : ℕ) → k < 64 → bit 0 k ≡ bordered ws v h row (64 * at + (64 - k))
+    unfolding bordered
+    word-over e k l = bit-of-zero k ∙ sym (ap (λ (r : ℕ). bordered ws v h r (64 * at + (64 - k))) e)
 
-    pub word-under : h < row → (k : ℕ) → k < 64 → bit 0 k ≡ framed ws v h row (64 * at + (64 - k))
+    pub word-under : h < row → (k : ℕ) → k < 64 → bit 0 k ≡ bordered ws v h row (64 * at + (64 - k))
     word-under a k l =
         bit-of-zero k
-        ∙ sym (framed-is row (64 * at + (64 - k)) (omega arith) (omega arith) ∙ pixel-under (row - 1) (64 * at + (64 - k) - 1) (omega arith))
+        ∙ sym (bordered-is row (64 * at + (64 - k)) (omega arith) (omega arith) ∙ pixel-under (row - 1) (64 * at + (64 - k) - 1) (omega arith))
 
-    pub word-beside : (row ≡ 0 → ⊥) → v ≤ at → (k : ℕ) → k < 64 → bit 0 k ≡ framed ws v h row (64 * at + (64 - k))
+    pub word-beside : (row ≡ 0 → ⊥) → v ≤ at → (k : ℕ) → k < 64 → bit 0 k ≡ bordered ws v h row (64 * at + (64 - k))
     word-beside z a k l =
         bit-of-zero k
-        ∙ sym (framed-is row (64 * at + (64 - k)) (omega arith) (omega arith) ∙ pixel-beside (row - 1) (64 * at + (64 - k) - 1) (omega arith))
+        ∙ sym (bordered-is row (64 * at + (64 - k)) (omega arith) (omega arith) ∙ pixel-beside (row - 1) (64 * at + (64 - k) - 1) (omega arith))
 
     pub word-within : (row ≡ 0 → ⊥) → row ≤ h → at < v → {w : ℕ} → w ≡ getD ws ((row - 1) * v + at) 0
-        → (k : ℕ) → k < 64 → bit w k ≡ framed ws v h row (64 * at + (64 - k))
+        → (k : ℕ) → k < 64 → bit w k ≡ bordered ws v h row (64 * at + (64 - k))
     word-within z a b {w} e k l =
         let x = 64 * at + (64 - k) - 1 in
         let q : x / 64 ≡ at = omega arith in
         let r : 63 - x % 64 ≡ k = omega arith in
         sym (
-        framed-is row (64 * at + (64 - k)) (omega arith) (omega arith)
+        bordered-is row (64 * at + (64 - k)) (omega arith) (omega arith)
         ∙ pixel-within (row - 1) x (omega arith) (omega arith)
         ∙ ap₂ (λ (j i : ℕ). bit (getD ws ((row - 1) * v + j) 0) i) q r
         ∙ ap (λ (n : ℕ). bit n k) (sym e)
         )
 
-  -- Words of a row of the frame, moved on by two pixels; the first two pixels of three rows.
+  -- Words of a row of the border, moved on by two pixels; the first two pixels of three rows.
 
   module _ (row at w next : ℕ) (inside : next < 2 ^ 64)
-      (p : (k : ℕ) → k < 64 → bit w k ≡ framed ws v h row (64 * at + (64 - k)))
-      (q : (k : ℕ) → k < 64 → bit next k ≡ framed ws v h row (64 * (at + 1) + (64 - k))) where
-    pub word-ahead : (k : ℕ) → k < 64 → bit (bitOr (w * 2 ^ 2 % 2 ^ 64) (next / 2 ^ 62)) k ≡ framed ws v h row (64 * at + (66 - k))
+      (p : (k : ℕ) → k < 64 → bit w k ≡ bordered ws v h row (64 * at + (64 - k)))
+      (q : (k : ℕ) → k < 64 → bit next k ≡ bordered ws v h row (64 * (at + 1) + (64 - k))) where
+    pub word-ahead : (k : ℕ) → k < 64 → bit (bitOr (w * 2 ^ 2 % 2 ^ 64) (next / 2 ^ 62)) k ≡ bordered ws v h row (64 * at + (66 - k))
     word-ahead k l = bit-or _ _ k ∙ by (decLt k 2)
       where
-        by : Dec (k < 2) → max (bit (w * 2 ^ 2 % 2 ^ 64) k) (bit (next / 2 ^ 62) k) ≡ framed ws v h row (64 * at + (66 - k))
+        by : Dec (k < 2) → max (bit (w * 2 ^ 2 % 2 ^ 64) k) (bit (next / 2 ^ 62) k) ≡ bordered ws v h row (64 * at + (66 - k))
         by (yes b) =
             let e : 64 * (at + 1) + (64 - (62 + k)) ≡ 64 * at + (66 - k) = omega arith in
-            omega (arith, bit-shl-below w 2 {w = 64} k l b, bit-shr next 62 k, q (62 + k) (omega arith), ap (framed ws v h row) e)
+            omega (arith, bit-shl-below w 2 {w = 64} k l b, bit-shr next 62 k, q (62 + k) (omega arith), ap (bordered ws v h row) e)
         by (no b) =
             let e : 64 * at + (64 - (k - 2)) ≡ 64 * at + (66 - k) = omega arith in
             omega (
@@ -132,24 +132,24 @@ module _ (ws : List ℕ) (v h : ℕ) where
               bit-shr next 62 k,
               bit-above {w = 64} (62 + k) inside (omega arith),
               p (k - 2) (omega arith),
-              ap (framed ws v h row) e,
+              ap (bordered ws v h row) e,
             )
 
-  framed-left : (row : ℕ) → framed ws v h row 0 ≡ 0
-  unfolding framed
-  framed-left zero = refl
-  framed-left (suc y) = refl
+  bordered-left : (row : ℕ) → bordered ws v h row 0 ≡ 0
+  unfolding bordered
+  bordered-left zero = refl
+  bordered-left (suc y) = refl
 
   -- the highest two bits of the first word of a row
-  first-two : (row : ℕ) {w : ℕ} → w < 2 ^ 64 → ((k : ℕ) → k < 64 → bit w k ≡ framed ws v h row (64 * 0 + (64 - k)))
-      → w / 2 ^ 62 ≡ framed ws v h row 1 % 2 * 2 + framed ws v h row 2 % 2
+  first-two : (row : ℕ) {w : ℕ} → w < 2 ^ 64 → ((k : ℕ) → k < 64 → bit w k ≡ bordered ws v h row (64 * 0 + (64 - k)))
+      → w / 2 ^ 62 ≡ bordered ws v h row 1 % 2 * 2 + bordered ws v h row 2 % 2
   unfolding bit
-  first-two row {w} l p = omega (arith, p 63 (omega arith), p 62 (omega arith), framed-lt row 1, framed-lt row 2)
+  first-two row {w} l p = omega (arith, p 63 (omega arith), p 62 (omega arith), bordered-lt row 1, bordered-lt row 2)
 
   pub first-window : (y : ℕ) {a o b : ℕ} → a < 2 ^ 64 → o < 2 ^ 64 → b < 2 ^ 64
-      → ((k : ℕ) → k < 64 → bit a k ≡ framed ws v h y (64 * 0 + (64 - k)))
-      → ((k : ℕ) → k < 64 → bit o k ≡ framed ws v h (y + 1) (64 * 0 + (64 - k)))
-      → ((k : ℕ) → k < 64 → bit b k ≡ framed ws v h (y + 2) (64 * 0 + (64 - k)))
+      → ((k : ℕ) → k < 64 → bit a k ≡ bordered ws v h y (64 * 0 + (64 - k)))
+      → ((k : ℕ) → k < 64 → bit o k ≡ bordered ws v h (y + 1) (64 * 0 + (64 - k)))
+      → ((k : ℕ) → k < 64 → bit b k ≡ bordered ws v h (y + 2) (64 * 0 + (64 - k)))
       → bitOr (bitOr (a / 2 ^ 62 * 2 ^ 6 % 2 ^ 64) (o / 2 ^ 62 * 2 ^ 3 % 2 ^ 64)) (b / 2 ^ 62) ≡ around ws v h y 0
   unfolding window ofBits
   first-window y {a} {o} {b} ha ho hb p q r =
@@ -157,5 +157,5 @@ module _ (ws : List ℕ) (v h : ℕ) where
       let f : y + 2 - 1 ≡ y + 1 = omega arith in
       let g : y + 2 - 2 ≡ y = omega arith in
       three-joined {a = a / 2 ^ 62} {o = o / 2 ^ 62} {b = b / 2 ^ 62} (omega (arith, ha)) (omega (arith, ho)) (omega (arith, hb))
-      ∙ rw (e, f, g, framed-left y, framed-left (y + 1), framed-left (y + 2))
+      ∙ rw (e, f, g, bordered-left y, bordered-left (y + 1), bordered-left (y + 2))
       (omega (arith, first-two y ha p, first-two (y + 1) ho q, first-two (y + 2) hb r))

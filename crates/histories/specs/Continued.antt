@@ -10,10 +10,11 @@ use Rattle.unit.specs.Bank.{waits, leaving}
 use Rattle.unit.specs.Lent.{bare}
 use Rattle.unit.specs.Operation.{Operation, stepBy}
 use Rattle.unit.specs.Calls.{writeOf, writeLent}
 use Rattle.runs.specs.declared.Turn.{Turn}
 use Rattle.runs.specs.declared.Outcome.{Outcome}
 use Rattle.runs.specs.Run.{sumOf, ranOf, runRefusal, continues, continueOf}
-use Rattle.runs.specs.BankCalls.{BankCall, callLook, callOperate, callRun, callContinue, callDrop, callWrite, callEnable, callAcknowledge}
+use Rattle.frame.specs.Frame.{frameRefusal}
+use Rattle.histories.specs.BankCalls.{BankCall, callLook, callOperate, callRun, callContinue, callDrop, callFrame, callWrite, callEnable, callAcknowledge}
 
 -- the bytes that a bank remembers
 abbrev pub remainderOf : Bank → List ℕ
@@ -90,13 +91,14 @@ abbrev pub AtLeastThree : List Continuation → Type 0
 AtLeastThree [] = Unit
 AtLeastThree (c ∷ cs) = (3 ≤ c .budget) × AtLeastThree cs
 
--- the calls that can end the waiting: a run continued that is not refused, and dropping
+-- the calls that can end the waiting: a run continued or a frame that is not refused, and dropping
 abbrev pub Ending : Bank → BankCall → Type 0
 Ending k callLook = ⊥
 Ending k (callOperate kind r1 r2 r3) = ⊥
 Ending k (callRun bytes budget) = ⊥
 Ending k (callContinue bytes budget) = runRefusal (not (continues k bytes)) bytes ≡ 0
 Ending k callDrop = Unit
+Ending k (callFrame before after bytes guarantee cycles) = frameRefusal (before ++ (record { bank = k; bytes = bytes; guarantee = guarantee } ∷ after)) cycles ≡ 0
 Ending k (callWrite n v) = ⊥
 Ending k (callEnable e) = ⊥
 Ending k (callAcknowledge m) = ⊥

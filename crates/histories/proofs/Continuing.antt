@@ -17,14 +17,14 @@ use Rattle.unit.specs.Operation.{figures, cyclesOf, isKind, usedOf, areRegister
 use Rattle.unit.specs.Calls.{numberRefusal, writeOf, writeLent, written}
 use Rattle.unit.specs.Lent.{bare}
 use Rattle.unit.proofs.Carried.{step-carries}
 use Rattle.runs.specs.declared.Outcome.{Outcome}
 use Rattle.runs.specs.Run.{operationsOf, stepsOf, sumOf, ranOf, anyKind, anyRegister, runRefusal, endOf, noted, remembering, dropLent, performOf, runOf, continues, continueOf}
-use Rattle.runs.specs.Continued.{remainderOf, Continuation, writesLent, continuedBy, continuedOf, budgetsAlone, Step, operating, writing, stepped, throughOf, operationsIn, asWriting, standing, Comes, AtLeastThree, WaitsAlike}
+use Rattle.histories.specs.Continued.{remainderOf, Continuation, writesLent, continuedBy, continuedOf, budgetsAlone, Step, operating, writing, stepped, throughOf, operationsIn, asWriting, standing, Comes, AtLeastThree, WaitsAlike}
 use Rattle.runs.proofs.OperationLists.{run-within, run-accepts, run-alone, operations-after}
-use Rattle.runs.proofs.Runs.{ran-fits, ran-le}
+use Rattle.runs.proofs.Runs.{ran-fits, ran-le, sum-append, steps-append}
 use Rattle.runs.proofs.Ends.{within-list}
-use Rattle.runs.proofs.Theorems.{perform-is, perform-not, run-ample}
-use Rattle.runs.proofs.Waiting.{remainder-exactly, writes-kept, spent-waits}
+use Rattle.histories.proofs.Runs.{perform-is, perform-not, run-ample}
+use Rattle.histories.proofs.Waiting.{remainder-exactly, writes-kept, spent-waits}
 
 -- Steps
 
@@ -73,16 +73,6 @@ unfolding operationsIn
 operations-in-writes [] ss = refl
 operations-in-writes (w ∷ ws) ss = operations-in-writes ws ss
 
-sum-append : (os ps : List Operation) → sumOf (os ++ ps) ≡ sumOf os + sumOf ps
-unfolding sumOf
-sum-append [] ps = omega arith
-sum-append (o ∷ os) ps = let e = sum-append os ps in omega (arith, e)
-
-steps-append : (k : Registers) (os ps : List Operation) → stepsOf k (os ++ ps) ≡ stepsOf (stepsOf k os) ps
-unfolding stepsOf
-steps-append k [] ps = refl
-steps-append k (o ∷ os) ps = steps-append (stepBy k o) os ps
-
 operations-in-all : (os : List Operation) → operationsIn (map operating os) ≡ os
 unfolding operationsIn
 operations-in-all [] = refl
@@ -114,18 +104,18 @@ accepted-after other bytes n e h =
     rw (eq-eqb _ 0 p, le-leb _ 4096 q, o, kinds-after n (operationsOf bytes) (a .0), registers-after n (operationsOf bytes) (a .1))
 
 -- What is left: the bank waits for it, or no longer, where that is nothing
-record Left (k : Bank) (os : List Operation) : Type 0 where
-  rest : List ℕ
-  are : operationsOf rest ≡ os
-  accepted : runRefusal false rest ≡ 0
-  either : ((continues k rest ≡ true) × (0 < length os)) ⊎ ((waits (k .registers) ≡ false) × (os ≡ []))
+pub record Left (k : Bank) (os : List Operation) : Type 0 where
+  pub rest : List ℕ
+  pub are : operationsOf rest ≡ os
+  pub accepted : runRefusal false rest ≡ 0
+  pub either : ((continues k rest ≡ true) × (0 < length os)) ⊎ ((waits (k .registers) ≡ false) × (os ≡ []))
 
 -- r is the answer and the bank of going on from the registers k by os within a budget
-record Came (k : Registers) (os : List Operation) (budget : ℕ) (r : Outcome × Bank) : Type 0 where
-  ran : r .0 .ran ≡ ranOf budget os
-  cycles : r .0 .cycles ≡ sumOf (take (ranOf budget os) os)
-  words : bare (r .1 .registers) ≡ bare (stepsOf k (take (ranOf budget os) os))
-  left : Left (r .1) (drop (ranOf budget os) os)
+pub record Came (k : Registers) (os : List Operation) (budget : ℕ) (r : Outcome × Bank) : Type 0 where
+  pub ran : r .0 .ran ≡ ranOf budget os
+  pub cycles : r .0 .cycles ≡ sumOf (take (ranOf budget os) os)
+  pub words : bare (r .1 .registers) ≡ bare (stepsOf k (take (ranOf budget os) os))
+  pub left : Left (r .1) (drop (ranOf budget os) os)
 
 module _ (other : Bool) (k : Bank) (bytes : List ℕ) (budget : ℕ) (e : runRefusal other bytes ≡ 0) where
   abbrev os : List Operation
@@ -157,7 +147,7 @@ module _ (other : Bool) (k : Bank) (bytes : List ℕ) (budget : ℕ) (e : runRef
       by-test false t =
           inr (spent-waits other k bytes budget e .0 ∙ ap (λ (m : ℕ). eqb m 2) (ends ∙ ap (λ (b : Bool). cond b 2 1) t), drop-of-length-le os (ltb-false n (length os) t))
 
-  came-performed : Came (k .registers) os budget r
+  pub came-performed : Came (k .registers) os budget r
   came-performed =
       let p = perform-is other k bytes budget e in
       record {

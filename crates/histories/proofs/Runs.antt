@@ -2,11 +2,10 @@
 use mathlib.Core.Path.{_≡_, refl, sym, _∙_, ap}
 use mathlib.Core.Bool.{Bool, true, false, not, cond}
 use mathlib.Core.List.{List, [], _∷_}
-use Prim.Native.Nat.{ℕ, suc, _-_, _<_, _≤_}
+use Prim.Native.Nat.{ℕ, _≤_}
 use native.Mathlib.Omega.{arith}
-use native.Mathlib.Decide.{decLt}
 use lib.Dec.{eqb}
-use lib.ListN.{length, take}
+use lib.ListN.{length}
 use lib.Seq.{take-length}
 use borrow.Author.Tests.{eq-eqb, ne-eqb, le-ltb, not-false}
 use Rattle.bits.specs.Refusal.{AnswersLowest}
@@ -14,49 +13,14 @@ use Rattle.bits.proofs.Refusals.{answers-lowest, neither}
 use Rattle.unit.specs.declared.Registers.{Registers}
 use Rattle.unit.specs.declared.Bank.{Bank}
 use Rattle.unit.specs.Bank.{waits, withRegisters, leaving}
-use Rattle.unit.specs.Operation.{cyclesOf, isKind, usedOf, areRegisters, operationRefusal, stepOf, Operation, stepBy}
+use Rattle.unit.specs.Operation.{isKind, usedOf, areRegisters, operationRefusal, stepOf, Operation, stepBy}
 use Rattle.unit.specs.Calls.{operateOf, operatesOf}
 use Rattle.unit.proofs.Carried.{step-carries}
 use Rattle.unit.proofs.LowestRefusals.{operation-refusal-by}
 use Rattle.runs.specs.declared.Outcome.{Outcome}
-use Rattle.runs.specs.Run.{operationsOf, anyKind, anyRegister, stepsOf, sumOf, ranOf, runConditions, runRefusal, turnOf, noted, dropLent, outcomeOf, refusedOf, performOf, runOf}
+use Rattle.runs.specs.Run.{operationsOf, anyKind, anyRegister, stepsOf, sumOf, runConditions, runRefusal, turnOf, noted, dropLent, outcomeOf, refusedOf, performOf, runOf}
 use Rattle.runs.proofs.OperationLists.{run-accepts, run-alone}
-use Rattle.runs.proofs.Runs.{ran-fits, ran-stops}
-
--- A run within its budget
-
--- all operations are run if their sum fits
-pub ran-ample : (left : ℕ) (os : List Operation) → sumOf os ≤ left → ranOf left os ≡ length os
-unfolding sumOf ranOf
-ran-ample left [] h = refl
-ran-ample left (o ∷ os) h =
-    ran-fits left o os (omega arith) ∙ ap suc (ran-ample (left - cyclesOf (o .0)) os (omega arith))
-
--- the operations run fit
-pub ran-within : (left : ℕ) (os : List Operation) → sumOf (take (ranOf left os) os) ≤ left
-unfolding sumOf ranOf
-ran-within left [] = omega arith
-ran-within left (o ∷ os) = by-test (decLt left (cyclesOf (o .0))) (ran-within (left - cyclesOf (o .0)) os)
-  where
-    by-test : Dec (left < cyclesOf (o .0)) → sumOf (take (ranOf (left - cyclesOf (o .0)) os) os) ≤ left - cyclesOf (o .0)
-        → sumOf (take (ranOf left (o ∷ os)) (o ∷ os)) ≤ left
-    by-test (yes h) r = rw (ran-stops left o os h) (omega arith)
-    by-test (no h) r = rw (ran-fits left o os (omega arith)) (omega arith)
-
--- and the next one, if there is one, does not: "an operation is left and does not fit"
-pub ran-next : (left : ℕ) (os : List Operation) → ranOf left os < length os → left < sumOf (take (suc (ranOf left os)) os)
-unfolding sumOf ranOf
-ran-next left [] h = absurd (omega arith)
-ran-next left (o ∷ os) h = by-test (decLt left (cyclesOf (o .0))) (ran-next (left - cyclesOf (o .0)) os)
-  where
-    by-test : Dec (left < cyclesOf (o .0))
-        → (ranOf (left - cyclesOf (o .0)) os < length os → left - cyclesOf (o .0) < sumOf (take (suc (ranOf (left - cyclesOf (o .0)) os)) os))
-        → left < sumOf (take (suc (ranOf left (o ∷ os))) (o ∷ os))
-    by-test (yes l) r = rw (ran-stops left o os l) (omega arith)
-    by-test (no l) r =
-        let e = ran-fits left o os (omega arith) in
-        let s = r (omega (arith, e)) in
-        rw e (omega (arith, s))
+use Rattle.runs.proofs.Runs.{ran-ample, ran-within}
 
 -- of a run, new or continued
 module _ (other : Bool) (k : Bank) (bytes : List ℕ) (budget : ℕ) where

@@ -1,11 +1,11 @@
 -- Req 09, the status byte and the interrupt line: what holds of them after every call. Assumes nothing.
 use mathlib.Core.Path.{_≡_, refl, sym, _∙_, ap, subst⁻¹}
 use mathlib.Core.Bool.{Bool, true, false, not, cond}
-use mathlib.Core.List.{List, [], _∷_}
+use mathlib.Core.List.{List, [], _∷_, _++_}
 use mathlib.Core.Logic.{_⊎_, inl, inr, ⊎-elim, _↔_}
 use Prim.Native.Nat.{ℕ, _*_, _%_, _<_, _≤_}
 use native.Mathlib.Omega.{arith}
-use native.Mathlib.Decide.{decLt}
+use native.Mathlib.Decide.{decLt, ℕ-discrete}
 use lib.Dec.{eqb, ltb}
 use lib.ListN.{length, take, drop}
 use borrow.Author.Tests.{eq-eqb, ne-eqb, eqb-true}
@@ -15,11 +15,14 @@ use Rattle.unit.specs.declared.Registers.{Registers}
 use Rattle.unit.specs.declared.Bank.{Bank}
 use Rattle.unit.specs.Bank.{fresh, freshBank, withStatus, withEnable, waits, withRegisters}
 use Rattle.unit.proofs.Carried.{operate-words, write-words}
 use Rattle.runs.specs.StatusByte.{withBit, statusOf, cleared, acknowledgeOf, someBoth, interruptOf, BothOne}
 use Rattle.runs.specs.Run.{operationsOf, stepsOf, ranOf, runRefusal, turnOf, endOf, statusBit, noted, remembering, dropLent, outcomeOf, refusedOf, performOf, continues}
-use Rattle.runs.specs.BankCalls.{BankCall, callLook, callOperate, callRun, callContinue, callDrop, callWrite, callEnable, callAcknowledge, leftBy, leftByAll}
+use Rattle.frame.specs.Frame.{Brought, otherWaits, frameRefusal, frameOf}
+use Rattle.histories.specs.Channels.{bankAt}
+use Rattle.histories.specs.BankCalls.{BankCall, callLook, callOperate, callRun, callContinue, callDrop, callFrame, callWrite, callEnable, callAcknowledge, leftBy, leftByAll}
 use Rattle.runs.proofs.StatusBits.{bit-with-bit, bit-cleared, bit-status, status-lt, some-of, some-both}
 use Rattle.runs.proofs.BytesKept.{steps-carry}
+use Rattle.histories.proofs.Frames.{refused-in, performed-in}
 
 -- The line is high exactly if some bit is one both in the status as it reads and in the enable byte; else it is low.
 pub interrupt-exactly : (k : Registers) → (interruptOf k ≡ 1) ↔ BothOne (statusOf k) (k .enable)
@@ -186,6 +189,17 @@ performed-below other k bytes budget h =
     let e = performOf other k bytes budget .0 .«end» in
     subst⁻¹ (λ (s : ℕ). s < 8) (run-bytes other k bytes budget .0) (with-bit-below (k .registers .status) (statusBit e) h (bit-lt-three e))
 
+framed-below : (before after : List Brought) (c : Brought) (cycles : ℕ) → c .bank .registers .status < 8
+    → bankAt (frameOf (before ++ (c ∷ after)) cycles) (length before) .registers .status < 8
+framed-below before after c cycles h = by-cases (ℕ-discrete (frameRefusal (before ++ (c ∷ after)) cycles) 0)
+  where
+    Below : Bank → Type 0
+    Below k = k .registers .status < 8
+
+    by-cases : Dec (frameRefusal (before ++ (c ∷ after)) cycles ≡ 0) → Below (bankAt (frameOf (before ++ (c ∷ after)) cycles) (length before))
+    by-cases (yes z) = let p = performed-in before after c cycles z in subst⁻¹ Below (p .is) (performed-below (otherWaits c) (c .bank) (c .bytes) (p .budget) h)
+    by-cases (no z) = subst⁻¹ Below (refused-in before after c cycles z) (with-bit-below (c .bank .registers .status) 2 h (omega arith))
+
 -- Every call leaves a stored status below 8 below 8.
 pub status-below : (k : Bank) (c : BankCall) → k .registers .status < 8 → leftBy k c .registers .status < 8
 unfolding leftBy
@@ -194,6 +208,7 @@ status-below k (callOperate kind r1 r2 r3) h = subst⁻¹ (λ (j : Registers). j
 status-below k (callRun bytes budget) h = performed-below (waits (k .registers)) k bytes budget h
 status-below k (callContinue bytes budget) h = performed-below (not (continues k bytes)) k bytes budget h
 status-below k callDrop h = h
+status-below k (callFrame before after bytes guarantee cycles) h = framed-below before after (record { bank = k; bytes = bytes; guarantee = guarantee }) cycles h
 status-below k (callWrite n v) h = subst⁻¹ (λ (j : Registers). j .status < 8) (write-words (k .registers) n v) h
 status-below k (callEnable e) h = h
 status-below k (callAcknowledge m) h = cleared-below (k .registers .status) m h

@@ -1,0 +1,4 @@
+pub mod Counting
+pub mod Offering
+pub mod Lowering
+pub mod OneBudget

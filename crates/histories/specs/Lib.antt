@@ -1,0 +1,4 @@
+pub mod Channels
+pub mod BankCalls
+pub mod Continued
+pub mod Frames
