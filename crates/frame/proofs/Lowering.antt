@@ -1,5 +1,5 @@
 -- The lowest refusal over all lists, from the lowest of each. Assumes nothing.
-use mathlib.Core.Path.{_≡_, refl, sym, _∙_}
+use mathlib.Core.Path.{_≡_, refl, sym, _∙_, ap}
 use mathlib.Core.Logic.{_⊎_, inl, inr}
 use mathlib.Core.Bool.{Bool, true, false, cond, _||_}
 use mathlib.Core.List.{List, [], _∷_, map}
@@ -109,11 +109,18 @@ lists-accept : (cs : List Brought) → lowest (listsConditions cs) ≡ 0 → All
 lists-accept [] e = tt
 lists-accept (c ∷ cs) e = let r = lower-none-of _ _ (lists-more c cs refl refl ∙ e) in (r .0, lists-accept cs (r .1))
 
+pub lists-accepted : (cs : List Brought) → AllAccepted cs → lowest (listsConditions cs) ≡ 0
+lists-accepted [] a = refl
+lists-accepted (c ∷ cs) a = sym (lists-more c cs (sym (a .0)) (sym (lists-accepted cs (a .1))))
+
 -- a frame's refusal from that of its lists, and back
 module _ (cs : List Brought) (cycles : ℕ) where
   split : frameRefusal cs cycles ≡ cond (eqb (lowest (listsConditions cs)) 0) (lowest ((15, ltb cycles (guaranteed cs)) ∷ [])) (lowest (listsConditions cs))
   unfolding frameRefusal
   split = lowest-more 0 (listsConditions cs) ((15, ltb cycles (guaranteed cs)) ∷ []) (omega arith)
+
+  pub frame-refusal-by : AllAccepted cs → frameRefusal cs cycles ≡ lowest ((15, ltb cycles (guaranteed cs)) ∷ [])
+  frame-refusal-by a = split ∙ ap (λ (r : ℕ). cond (eqb r 0) (lowest ((15, ltb cycles (guaranteed cs)) ∷ [])) r) (lists-accepted cs a)
 
   pub frame-accepts : frameRefusal cs cycles ≡ 0 → AllAccepted cs × (guaranteed cs ≤ cycles)
   frame-accepts e = by-cases (ℕ-discrete (lowest (listsConditions cs)) 0)

@@ -306,7 +306,7 @@ unfolding cyclesOf
 cycles-le kind = at-most-three figures kind (omega arith, (omega arith, (omega arith, (omega arith, (omega arith, (omega arith, (omega arith, (omega arith, (omega arith, (omega arith, (omega arith, tt)))))))))))
 
 -- so three run one of them
-ran-some : (budget : ℕ) (os : List Operation) → 3 ≤ budget → (length os ≡ 0) ⊎ (1 ≤ ranOf budget os)
+pub ran-some : (budget : ℕ) (os : List Operation) → 3 ≤ budget → (length os ≡ 0) ⊎ (1 ≤ ranOf budget os)
 ran-some budget [] h = inl refl
 ran-some budget (o ∷ os) h =
     let c = cycles-le (o .0) in
