@@ -600,7 +600,8 @@ void tb_drop(TbBank *bank);
 
 /*
  * Frames. Four channels, numbered 0 to 3, each with a bank and a list of operations,
- * share one frame. Each has a guarantee, a number of cycles that are its own.
+ * share one frame. Each has a guarantee, the number of cycles within which it runs
+ * first.
  */
 
 /* What tb_frame answers for one channel, of both its turns together. */
@@ -618,11 +619,12 @@ typedef struct {
 
 /*
  * Frame: four channels in a frame of `cycles` cycles. In number order each channel
- * runs its list within its guarantee, as by tb_run. What the four left of their
- * guarantees is one sum, the rest. In number order each channel that is not done then
- * runs on within what is left of the rest. Cycles beyond the sum of the guarantees are
- * not handed out. So each channel runs at least the operations that its guarantee alone
- * carries, and the four together use no more cycles than that sum.
+ * runs its list while the next operation's cycles fit in what is left of its guarantee:
+ * its first turn. What the four left of their guarantees is one sum, the rest. In number
+ * order each channel that is not done then runs on within what is left of the rest: its
+ * second turn. Cycles beyond the sum of the guarantees are not handed out. So each channel
+ * runs at least the operations that its guarantee alone carries, and the four together use
+ * no more cycles than that sum.
  *
  * Where a bank waits, its list is that of a continued run, the remainder byte for byte
  * as in tb_continue; else it is that of a new run. At the end of the frame each channel
@@ -634,9 +636,9 @@ typedef struct {
  * All four lists are checked before a channel starts, whatever the guarantees. A
  * refused call sets TB_STATUS_REFUSED in all four banks and changes nothing else.
  *
- * The four banks must be different ones, and neither a list nor the guarantees may
- * overlap a bank: of a remainder the caller lends its own copy. Lists may overlap each
- * other.
+ * The four banks must be different ones, of which no two overlap, and neither a list nor
+ * the guarantees may overlap a bank: of a remainder the caller lends its own copy. Lists
+ * may overlap each other.
  * Refusals, the lowest number over all four lists: TB_REFUSAL_LENGTH,
  * TB_REFUSAL_KIND, TB_REFUSAL_REGISTER, TB_REFUSAL_WAITING (a bank waits, and its list
  * is not its remainder), TB_REFUSAL_FRAME (the sum of the guarantees, the true one of

@@ -50,7 +50,7 @@ module _ (ws : List ℕ) (v h : ℕ) where
       neither true = refl
       neither false = refl
 
-  -- the border counts rows and columns from 1
+  -- the bordered plane counts rows and columns from 1
 
   pub bordered-is : (y x : ℕ) → 0 < y → 0 < x → bordered ws v h y x ≡ pixel ws v h (y - 1) (x - 1)
   unfolding bordered
@@ -67,7 +67,7 @@ module _ (ws : List ℕ) (v h : ℕ) where
   bordered-lt (suc y) zero = omega arith
   bordered-lt (suc y) (suc x) = pixel-lt y x
 
-  -- what is lit in the border lies in the plane
+  -- what is lit in the bordered plane lies in the plane
   pub bordered-lit : (y x : ℕ) → bordered ws v h y x ≡ 1
       → (up : ℕ) × (left : ℕ) × (y ≡ up + 1) × (x ≡ left + 1) × (up < h) × (left < 64 * v) × (pixel ws v h up left ≡ 1)
   unfolding bordered
@@ -83,7 +83,7 @@ module _ (ws : List ℕ) (v h : ℕ) where
       before (yes l) = l
       before (no l) = absurd (omega (arith, e, pixel-beside y x (omega arith)))
 
-  -- Word `at` of a row of the border, by its bits: those outside the plane are dark.
+  -- Word `at` of a row of the bordered plane, by its bits: those outside the plane are dark.
   module _ (row at : ℕ) where
     pub word-over : row ≡ 0 → (k : ℕ) → k < 64 → bit 0 k ≡ bordered ws v h row (64 * at + (64 - k))
     unfolding bordered
@@ -112,7 +112,7 @@ module _ (ws : List ℕ) (v h : ℕ) where
         ∙ ap (λ (n : ℕ). bit n k) (sym e)
         )
 
-  -- Words of a row of the border, moved on by two pixels; the first two pixels of three rows.
+  -- Words of a row of the bordered plane, moved on by two pixels; the first two pixels of three rows.
 
   module _ (row at w next : ℕ) (inside : next < 2 ^ 64)
       (p : (k : ℕ) → k < 64 → bit w k ≡ bordered ws v h row (64 * at + (64 - k)))

@@ -4,7 +4,7 @@ use mathlib.Core.List.{List}
 use Prim.Native.Nat.{ℕ, _+_, _<_}
 use Rattle.despeckle.specs.Plane.{bordered}
 
--- One of the eight pixels around that of row y and column x is lit. In the border, which counts from 1, these are rows y to y + 2 and columns x to x + 2 without
+-- One of the eight pixels around that of row y and column x is lit. In the bordered plane, which counts from 1, these are rows y to y + 2 and columns x to x + 2 without
 -- row y + 1, column x + 1.
 pub record LitBeside (ws : List ℕ) (v h y x : ℕ) : Type 0 where
   pub down : ℕ

@@ -21,7 +21,7 @@ bordered ws v h (suc y) (suc x) = pixel ws v h y x
 unfoldable pub window : (ℕ → ℕ → ℕ) → ℕ → ℕ → ℕ
 window g y x = ofBits 9 (λ i. g (y + 2 - i / 3) (x + 2 - i % 3))
 
--- "Each dot's three by three surroundings make a number from 0 to 511": row y - 1 is row y in the border
+-- "Each dot's three by three surroundings make a number from 0 to 511": row y - 1 is row y in the bordered plane
 abbrev pub around : List ℕ → ℕ → ℕ → ℕ → ℕ → ℕ
 around ws v h y x = window (bordered ws v h) y x
 

@@ -9,7 +9,7 @@ use Rattle.bits.specs.Bit.{upTo, overwritten}
 use Rattle.bits.proofs.FilledLists.{length-overwritten, fill-none, fill-next, fill-all}
 use Rattle.unit.specs.Bank.{freshBank}
 use Rattle.frame.specs.Frame.{broughtBy, restOf}
-use Rattle.frame.specs.Offers.{FirstTurn, restAfter, offeredTo, budgetOf, budgetsBy, sumOfFour}
+use Rattle.frame.specs.Offers.{CountedFirst, restAfter, offeredTo, budgetOf, budgetsBy, sumOfFour}
 
 module _ (ls : List (List ℕ)) (ran used : List ℕ) (rest : ℕ) where
   -- before channel n: the budgets of the channels before it, and what is left of the rest
@@ -44,8 +44,8 @@ module _ (ls : List (List ℕ)) (ran used : List ℕ) (rest : ℕ) where
   offered-all h e = h .filled ∙ ap (λ (m : ℕ). overwritten m (budgetOf ls ran used rest) (replicate 4 0)) e ∙ fill-all (budgetOf ls ran used rest) 4 (replicate 4 0) (omega arith)
 
 -- Four channels after their first turns
-module _ (gs : List ℕ) {l0 l1 l2 l3 : List ℕ} {r0 r1 r2 r3 u0 u1 u2 u3 x0 x1 x2 x3 : ℕ} (f0 : FirstTurn l0 (getD gs 0 0) r0 u0 x0) (f1 : FirstTurn l1 (getD gs 1 0) r1 u1 x1)
-    (f2 : FirstTurn l2 (getD gs 2 0) r2 u2 x2) (f3 : FirstTurn l3 (getD gs 3 0) r3 u3 x3) where
+module _ (gs : List ℕ) {l0 l1 l2 l3 : List ℕ} {r0 r1 r2 r3 u0 u1 u2 u3 x0 x1 x2 x3 : ℕ} (f0 : CountedFirst l0 (getD gs 0 0) r0 u0 x0) (f1 : CountedFirst l1 (getD gs 1 0) r1 u1 x1)
+    (f2 : CountedFirst l2 (getD gs 2 0) r2 u2 x2) (f3 : CountedFirst l3 (getD gs 3 0) r3 u3 x3) where
   abbrev lists : List (List ℕ)
   lists = l0 ∷ l1 ∷ l2 ∷ l3 ∷ []
 

@@ -14,7 +14,7 @@ use Rattle.runs.specs.Run.{operationsOf, runConditions, reaching, turnOf, outco
 use Rattle.frame.specs.declared.Channel.{Channel}
 use Rattle.frame.specs.declared.Frame.{Frame}
 
--- "Picture, sound, subtitles and automation each have a bank and a list, numbered 0 to 3": what a channel brings to a frame
+-- "Picture, sound, subtitles and automation each have a bank and a list, numbered 0 to 3", "Each channel has a guarantee": what a channel brings to a frame
 pub record Brought : Type 0 where
   pub bank : Bank
   pub bytes : List ℕ
@@ -46,7 +46,8 @@ secondTurn c rest = turnOf (firstTurn c .1) (drop (firstTurn c .0 .ran) (operati
 abbrev pub together : Turn × Registers → Turn × Registers → Turn × Registers
 together t u = reaching (record { ran = t .0 .ran + u .0 .ran; cycles = t .0 .cycles + u .0 .cycles }) (u .1)
 
--- "offered in number order to those not done": each channel ends as a run does, after both turns
+-- "offered in number order to those not done"; "a channel not done at the frame's end waits as in Req 10, and each bank's status is set once, then": after both
+-- turns each channel ends once, as a run does
 unfoldable pub offeredOf : ℕ → List Brought → List (Outcome × Bank)
 offeredOf rest [] = []
 offeredOf rest (c ∷ cs) =
@@ -97,10 +98,11 @@ leavingAll a ks = (a, ks)
 abbrev pub framedOf : ℕ → List (Outcome × Bank) → Frame × List Bank
 framedOf r os = leavingAll (record { refusal = r; channels = map (λ o. channelOf (o .0)) os }) (map (λ o. o .1) os)
 
--- A refused frame "turns the frame back before a channel starts and sets status bit 2 in all four banks": each channel is as a refused run leaves it.
+-- A refusal "turns the frame back before a channel starts and sets status bit 2 in all four banks": each channel is as a refused run leaves it.
 abbrev pub refusedFrame : List Brought → ℕ → Frame × List Bank
 refusedFrame cs r = framedOf r (map (λ c. refusedOf (c .bank) r) cs)
 
+-- "one frame has F cycles": a frame, carried out or refused
 unfoldable pub frameOf : List Brought → ℕ → Frame × List Bank
 frameOf cs cycles =
     cond (eqb (frameRefusal cs cycles) 0) (framedOf 0 (offeredOf (restOf cs) cs)) (refusedFrame cs (frameRefusal cs cycles))

@@ -1,4 +1,4 @@
--- A frame's turns counted before any channel runs, as inner functions do it. No call's contract cites this file. Assumes nothing.
+-- A frame's turns counted before any channel runs, its refusals and refused statuses, as inner functions do it. No call's contract cites this file. Assumes nothing.
 use mathlib.Core.Path.{_≡_}
 use Prim.Native.Nat.{ℕ, zero, suc, _+_, _-_, _*_, _%_, _≤_}
 use mathlib.Core.Bool.{Bool, cond}
@@ -22,7 +22,7 @@ abbrev pub countedOf : List Operation → ℕ → Turn
 countedOf os budget = record { ran = ranOf budget os; cycles = sumOf (take (ranOf budget os) os) }
 
 -- a channel's turn within its guarantee: the operations run, the cycles used, and what is left
-pub record FirstTurn (bytes : List ℕ) (guarantee ran used left : ℕ) : Type 0 where
+pub record CountedFirst (bytes : List ℕ) (guarantee ran used left : ℕ) : Type 0 where
   pub ran-is : ran ≡ countedOf (operationsOf bytes) guarantee .ran
   pub used-is : used ≡ countedOf (operationsOf bytes) guarantee .cycles
   pub within : 4 * ran ≤ length bytes

@@ -11,7 +11,7 @@ ghost use Rattle.bits.specs.Refusal.{lowest};
 ghost use Rattle.unit.specs.Bank.{fresh, withStatus, bankOf, leaving};
 ghost use Rattle.runs.specs.Run.{operationsOf, runRefusal, markedBy, withMarks, carriedOut, isRemainder};
 ghost use Rattle.frame.specs.Frame.{broughtBy, leavingAll, channelOf, listsConditions, frameOf};
-ghost use Rattle.frame.specs.Offers.{Whole, countedOf, FirstTurn, restAfter, budgetOf, budgetsBy, lowerOf, sumOfFour, sumConditions, refusedStatuses};
+ghost use Rattle.frame.specs.Offers.{Whole, countedOf, CountedFirst, restAfter, budgetOf, budgetsBy, lowerOf, sumOfFour, sumConditions, refusedStatuses};
 
 // How one channel was run: its end (1 done, 2 spent), the operations run and the cycles used, of both turns together; zeros in a refused frame.
 #[repr(C)]
@@ -44,7 +44,7 @@ struct First {
     left: u32,
 }
 
-// internal: whole operations, at most 1,024, and not more before the first than there are. How far a budget carries those from there on; none is run.
+// internal: whole operations, at most 1,024, of which the first `ran` are passed over. How far a budget carries the others; none is run.
 fn count(ops: &[u8], ran: u32, budget: u32) -> runs::Turn
     requires { ⌜ Whole (now ops) × (4 * ran ≤ length (now ops)) ⌝ }
     ensures { λ r. ⌜ r ≡ countedOf (drop ran (operationsOf (now (ops .entry)))) budget ⌝ }
@@ -96,7 +96,7 @@ fn count_at(
     count(ops3, ran, budget)
 }
 
-// internal: a channel's number, and what `offer` takes. The channel's budget is what its first turn used and all that is left of the rest; what it leaves of that.
+// internal: a channel's number, and what `offer` takes. The channel's budget is what its first turn used and all that is left of the rest; what it leaves of the rest.
 fn offer_to(
     n: usize,
     ops0: &[u8],
@@ -145,7 +145,7 @@ fn offer(
 // internal: whole operations, at most 1,024. A channel's turn within its guarantee.
 fn first_turn(ops: &[u8], guarantee: u32) -> First
     requires { ⌜ Whole (now ops) ⌝ }
-    ensures { λ r. ⌜ FirstTurn (now (ops .entry)) guarantee (r .ran) (r .used) (r .left) ⌝ }
+    ensures { λ r. ⌜ CountedFirst (now (ops .entry)) guarantee (r .ran) (r .used) (r .left) ⌝ }
 {
     let turn = count(ops, 0, guarantee);
     First {
@@ -155,7 +155,7 @@ fn first_turn(ops: &[u8], guarantee: u32) -> First
     }
 }
 
-// internal: whole operations, at most 1,024 in each list, and guarantees whose sum is a number of cycles. The budgets of both turns of each channel.
+// internal: whole operations, at most 1,024 in each list, and guarantees whose sum fits in 32 bits. The budgets of both turns of each channel.
 fn budgets_of(ops0: &[u8], ops1: &[u8], ops2: &[u8], ops3: &[u8], guarantees: &[u32; 4]) -> [u32; 4]
     requires { ⌜ Whole (now ops0) × Whole (now ops1) × Whole (now ops2) × Whole (now ops3)
         × (sumOfFour (now guarantees) ≤ 4294967295) ⌝ }
@@ -185,7 +185,7 @@ fn run_channel(
     let mut b = registers.b;
     let mut ib = registers.ib;
     let marks = runs::marks_of(registers);
-    let after = runs::carry_out(&mut general, &mut b, &mut ib, marks, list, ops, budget);
+    let after = runs::perform(0, &mut general, &mut b, &mut ib, marks, list, ops, budget);
     runs::ran_at(after, general, b, ib)
 }
 

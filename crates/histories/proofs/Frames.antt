@@ -22,7 +22,7 @@ use Rattle.frame.specs.declared.Frame.{Frame}
 use Rattle.frame.specs.Frame.{Brought, firstTurn, restOf, secondTurn, offeredOf, otherWaits, guaranteed, frameConditions, frameRefusal, channelOf, framedOf, refusedFrame, frameOf}
 use Rattle.frame.proofs.Lowering.{AllAccepted, frame-accepts}
 use Rattle.frame.proofs.OneBudget.{turns-are, frame-refused}
-use Rattle.histories.specs.Channels.{channelAt, answerAt, bankAt, cyclesIn, aloneOf, AsAlone}
+use Rattle.histories.specs.Channels.{channelAt, answerAt, bankAt, cyclesIn, aloneOf, offeredAt, bothTurns, AsAlone}
 use Rattle.histories.proofs.Runs.{perform-is}
 
 -- Demand 1: the lowest refusal of a frame, zeros beside it and, but for status bit 2 in each, the banks as they were.
@@ -105,14 +105,11 @@ getD-map f [] n d = refl
 getD-map f (x ∷ xs) zero d = refl
 getD-map f (x ∷ xs) (suc n) d = getD-map f xs n d
 
-record Offered (c : Brought) (o : Outcome × Bank) : Type 0 where
-  offered : ℕ
-  is : o ≡ aloneOf c (firstTurn c .0 .cycles + offered)
-
-offered-at : (rest : ℕ) (cs : List Brought) → AllAccepted cs → (n : ℕ) → n < length cs → Offered (channelAt cs n) (getD (offeredOf rest cs) n nothing)
+offered-at : (rest : ℕ) (cs : List Brought) → AllAccepted cs → (n : ℕ) → n < length cs
+    → getD (offeredOf rest cs) n nothing ≡ aloneOf (channelAt cs n) (firstTurn (channelAt cs n) .0 .cycles + offeredAt rest cs n)
 unfolding offeredOf
 offered-at rest [] a n h = absurd (not-suc-le-zero h)
-offered-at rest (c ∷ cs) a zero h = record { offered = rest; is = turns-are c rest ∙ sym (alone-carried c (a .0) (firstTurn c .0 .cycles + rest)) }
+offered-at rest (c ∷ cs) a zero h = turns-are c rest ∙ sym (alone-carried c (a .0) (firstTurn c .0 .cycles + rest))
 offered-at rest (c ∷ cs) a (suc n) h = offered-at (rest - secondTurn c rest .0 .cycles) cs (a .1) n (omega arith)
 
 pub accepted-at : (cs : List Brought) → AllAccepted cs → (n : ℕ) → n < length cs → runRefusal (otherWaits (channelAt cs n)) (channelAt cs n .bytes) ≡ 0
@@ -151,14 +148,13 @@ module _ (cs : List Brought) (cycles : ℕ) (e : frameRefusal cs cycles ≡ 0) (
   unfolding frameOf
   carried = rw (eq-eqb (frameRefusal cs cycles) 0 e)
 
-  -- Each channel is answered and left as its run alone is, with one budget.
-  pub frame-channel : AsAlone c (answerAt f n) (bankAt f n)
+  -- Each channel is answered and left as its run alone is, with one budget for both turns.
+  pub frame-channel : AsAlone c (bothTurns cs n) (answerAt f n) (bankAt f n)
   frame-channel =
       let o = offered-at (restOf cs) cs (frame-accepts cs cycles e .0) n h in
       record {
-        offered = o .offered;
-        answer = ap (λ (g : Frame × List Bank). answerAt g n) carried ∙ getD-map (λ o. channelOf (o .0)) (offeredOf (restOf cs) cs) n nothing ∙ ap (λ (o : Outcome × Bank). channelOf (o .0)) (o .is);
-        bank = ap (λ (g : Frame × List Bank). bankAt g n) carried ∙ getD-map (λ o. o .1) (offeredOf (restOf cs) cs) n nothing ∙ ap (λ (o : Outcome × Bank). o .1) (o .is);
+        answer = ap (λ (g : Frame × List Bank). answerAt g n) carried ∙ getD-map (λ o. channelOf (o .0)) (offeredOf (restOf cs) cs) n nothing ∙ ap (λ (o : Outcome × Bank). channelOf (o .0)) o;
+        bank = ap (λ (g : Frame × List Bank). bankAt g n) carried ∙ getD-map (λ o. o .1) (offeredOf (restOf cs) cs) n nothing ∙ ap (λ (o : Outcome × Bank). o .1) o;
       }
 
   abbrev os : List Operation
@@ -168,11 +164,11 @@ module _ (cs : List Brought) (cycles : ℕ) (e : frameRefusal cs cycles ≡ 0) (
   alone : (b : ℕ) → aloneOf c b ≡ carriedOut (c .bank) (c .bytes) b
   alone b = alone-carried c (accepted-at cs (frame-accepts cs cycles e .0) n h) b
 
-  ran-is : answerAt f n .ran ≡ ranOf (c .guarantee) os + ranOf (frame-channel .offered) (drop (ranOf (c .guarantee) os) os)
+  ran-is : answerAt f n .ran ≡ ranOf (c .guarantee) os + ranOf (offeredAt (restOf cs) cs n) (drop (ranOf (c .guarantee) os) os)
   ran-is =
       ap (λ (a : Channel). a .ran) (frame-channel .answer)
-      ∙ ap (λ (o : Outcome × Bank). o .0 .ran) (alone (firstTurn c .0 .cycles + frame-channel .offered))
-      ∙ ran-more (ranOf (c .guarantee) os) (frame-channel .offered) os (ran-le (c .guarantee) os)
+      ∙ ap (λ (o : Outcome × Bank). o .0 .ran) (alone (bothTurns cs n))
+      ∙ ran-more (ranOf (c .guarantee) os) (offeredAt (restOf cs) cs n) os (ran-le (c .guarantee) os)
 
   -- A channel gets through at least the operations that its guarantee alone would carry.
   pub frame-at-least : aloneOf c (c .guarantee) .0 .ran ≤ answerAt f n .ran
@@ -184,8 +180,8 @@ module _ (cs : List Brought) (cycles : ℕ) (e : frameRefusal cs cycles ≡ 0) (
   -- what a channel is answered and left hangs on the operations that it ran
   pub by-ran : leaving (answerAt f n) (bankAt f n) ≡ ranTo c (answerAt f n .ran)
   by-ran =
-      let p = alone (firstTurn c .0 .cycles + frame-channel .offered) in
-      let r : answerAt f n .ran ≡ ranOf (firstTurn c .0 .cycles + frame-channel .offered) os =
+      let p = alone (bothTurns cs n) in
+      let r : answerAt f n .ran ≡ ranOf (bothTurns cs n) os =
       ap (λ (a : Channel). a .ran) (frame-channel .answer) ∙ ap (λ (o : Outcome × Bank). o .0 .ran) p
       in
       (λ i. leaving (frame-channel .answer i) (frame-channel .bank i)) ∙ ap (λ (o : Outcome × Bank). leaving (channelOf (o .0)) (o .1)) p ∙ ap (ranTo c) (sym r)
@@ -197,7 +193,7 @@ module _ (cs : List Brought) (cycles : ℕ) (e : frameRefusal cs cycles ≡ 0) (
       let m = ranOf (c .guarantee) os in
       let l : length os ≤ m = done-all m os (sym (ap (λ (o : Outcome × Bank). o .0 .«end») g) ∙ d) in
       let r : answerAt f n .ran ≡ m =
-      ran-is ∙ ap (λ (xs : List Operation). m + ranOf (frame-channel .offered) xs) (drop-of-length-le os l) ∙ none-more m (frame-channel .offered)
+      ran-is ∙ ap (λ (xs : List Operation). m + ranOf (offeredAt (restOf cs) cs n) xs) (drop-of-length-le os l) ∙ none-more m (offeredAt (restOf cs) cs n)
       in
       let p = by-ran ∙ ap (ranTo c) r ∙ sym (ap (λ (o : Outcome × Bank). leaving (channelOf (o .0)) (o .1)) g) in
       (ap (λ (x : Channel × Bank). x .0) p, ap (λ (x : Channel × Bank). x .1) p)
@@ -244,7 +240,7 @@ module _ (before after : List Brought) (c : Brought) (cycles : ℕ) where
   pub performed-in : frameRefusal all cycles ≡ 0 → LeftByRun c left
   performed-in z =
       let a = frame-channel all cycles z (length before) within in
-      let m = firstTurn (channelAt all (length before)) .0 .cycles + a .offered in
+      let m = bothTurns all (length before) in
       record {
         budget = m;
         is = a .bank ∙ ap (λ (o : Outcome × Bank). o .1) (alone-is (channelAt all (length before)) m) ∙ ap (λ (x : Brought). performOf (otherWaits x) (x .bank) (x .bytes) m .1) here;

@@ -26,7 +26,7 @@ use Rattle.frame.specs.Frame.{Brought, broughtFrom, firstTurn, restOf, secondTu
 use Rattle.frame.proofs.Lowering.{AllAccepted, frame-accepts, frame-refusal-by}
 use Rattle.frame.proofs.OneBudget.{turns-are}
 use Rattle.histories.specs.Continued.{remainderOf}
-use Rattle.histories.specs.Channels.{channelAt, bankAt, aloneOf}
+use Rattle.histories.specs.Channels.{channelAt, bankAt, aloneOf, offeredAt, bothTurns}
 use Rattle.histories.specs.Frames.{NextFrame, nextList, nextBrought, framesOf, AtLeastThreeFor}
 use Rattle.histories.proofs.Runs.{perform-is, run-ample}
 use Rattle.histories.proofs.Waiting.{remainder-exactly}
@@ -151,7 +151,7 @@ module _ (k : Registers) (os : List Operation) (n : ℕ) where
       by-cases (yes z) =
           let c = channelAt cs n in
           let a = frame-channel cs (f .cycles) z n l in
-          let m = firstTurn c .0 .cycles + a .offered in
+          let m = bothTurns cs n in
           let o = alone-carried c (accepted-at cs (frame-accepts cs (f .cycles) z .0) n l) m in
           subst⁻¹ (Under k os) (a .bank ∙ ap (λ (x : Outcome × Bank). x .1) o ∙ (λ i. carriedOut (b .0 i) (b .1 i) m .1)) (under-next k os j u m)
       by-cases (no z) = subst⁻¹ (Under k os) (frame-refused-at cs (f .cycles) z n l ∙ ap (λ (x : Bank). noted x 0) (b .0)) (under-refused k os j u)
@@ -186,7 +186,7 @@ frames-ample cs cycles e fs n h ample s w =
     let os = operationsOf (c .bytes) in
     let z = accepted-at cs (frame-accepts cs cycles e .0) n h in
     let a = frame-channel cs cycles e n h in
-    let m = firstTurn c .0 .cycles + a .offered in
+    let m = bothTurns cs n in
     let first : Under k os (bankAt (frameOf cs cycles) n) =
     subst⁻¹ (Under k os) (a .bank ∙ ap (λ (x : Outcome × Bank). x .1) (alone-is c m)) (under-first (otherWaits c) (c .bank) (c .bytes) m z)
     in
@@ -319,9 +319,9 @@ module _ (k : Registers) (os : List Operation) (n : ℕ) where
       let g = b .2 ∙ ap (λ (i : ℕ). getD (f .guarantees) i 0) e in
       let c = channelAt cs n in
       let a = frame-channel cs (f .cycles) z n l in
-      let o = alone-carried c (accepted-at cs (frame-accepts cs (f .cycles) z .0) n l) (firstTurn c .0 .cycles + a .offered) in
-      subst⁻¹ (FewLeft k os m) (a .bank ∙ ap (λ (x : Outcome × Bank). x .1) o ∙ (λ i. carriedOut (b .0 i) (b .1 i) (spentOf (g i) (b .1 i) + a .offered) .1))
-      (few-next k os m j u (getD (f .guarantees) n 0) (a .offered) t)
+      let o = alone-carried c (accepted-at cs (frame-accepts cs (f .cycles) z .0) n l) (bothTurns cs n) in
+      subst⁻¹ (FewLeft k os m) (a .bank ∙ ap (λ (x : Outcome × Bank). x .1) o ∙ (λ i. carriedOut (b .0 i) (b .1 i) (spentOf (g i) (b .1 i) + offeredAt (restOf cs) cs n) .1))
+      (few-next k os m j u (getD (f .guarantees) n 0) (offeredAt (restOf cs) cs n) t)
 
   few-frames : (ks : List Bank) (fs : List NextFrame) → n < length ks → FewLeft k os (length fs) (getD ks n freshBank) → AtLeastThreeFor n ks fs
       → waits (getD (framesOf ks fs) n freshBank .registers) ≡ false
@@ -351,8 +351,8 @@ frames-end cs cycles e fs n h t a l =
     let os = operationsOf (c .bytes) in
     let z = accepted-at cs (frame-accepts cs cycles e .0) n h in
     let o = frame-channel cs cycles e n h in
-    let m = firstTurn c .0 .cycles + o .offered in
-    let r = ran-more (ranOf (c .guarantee) os) (o .offered) os (ran-le (c .guarantee) os) in
+    let m = bothTurns cs n in
+    let r = ran-more (ranOf (c .guarantee) os) (offeredAt (restOf cs) cs n) os (ran-le (c .guarantee) os) in
     let d = length-drop (ranOf m os) os in
     let few : length (drop (ranOf m os) os) ≤ length fs = ⊎-elim (λ x. omega (arith, d, x)) (λ x. omega (arith, d, l, r, x)) (ran-some (c .guarantee) os t) in
     let first : FewLeft k os (length fs) (bankAt (frameOf cs cycles) n) =

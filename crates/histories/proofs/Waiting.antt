@@ -100,7 +100,7 @@ pub hand-waiting : (shown turn1 ≡ 0 ∷ 2 ∷ 1 ∷ 1 ∷ 2 ∷ 1 ∷ 8 ∷ 5 
 unfolding performOf runRefusal operationsOf anyKind anyRegister ranOf sumOf stepsOf cyclesOf effectOf loadOf same writeOf numberRefusal operateOf operationRefusal withBit ofBits bit
 hand-waiting = (refl, refl, refl, refl, refl)
 
--- Under every call but a run continued that is not refused, and dropping, a waiting bank keeps waiting, for the same bytes.
+-- Under every call but a run continued or a frame that is not refused, and dropping, a waiting bank keeps waiting, for the same bytes.
 
 alike-none : {k : Bank} → WaitsAlike k k
 alike-none = record { waiting = refl; left = refl; list = refl }

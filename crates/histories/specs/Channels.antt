@@ -1,6 +1,6 @@
 -- Req 11: what a frame answers each channel and leaves it, by its number. Assumes nothing.
 use mathlib.Core.Path.{_≡_}
-use Prim.Native.Nat.{ℕ, _+_}
+use Prim.Native.Nat.{ℕ, zero, suc, _+_, _-_}
 use mathlib.Core.Bool.{cond}
 use mathlib.Core.List.{List, [], _∷_}
 use lib.ListN.{getD}
@@ -10,7 +10,7 @@ use Rattle.runs.specs.declared.Outcome.{Outcome}
 use Rattle.runs.specs.Run.{runOf, continueOf}
 use Rattle.frame.specs.declared.Channel.{Channel}
 use Rattle.frame.specs.declared.Frame.{Frame}
-use Rattle.frame.specs.Frame.{Brought, firstTurn, channelOf}
+use Rattle.frame.specs.Frame.{Brought, firstTurn, restOf, secondTurn, channelOf}
 
 -- channel n of those brought, what a frame answers it, and the bank that it leaves it; beyond them, a fresh bank and zeros
 abbrev pub channelAt : List Brought → ℕ → Brought
@@ -31,8 +31,17 @@ cyclesIn (x ∷ xs) = x .cycles + cyclesIn xs
 abbrev pub aloneOf : Brought → ℕ → Outcome × Bank
 aloneOf c budget = cond (waits (c .bank .registers)) (continueOf (c .bank) (c .bytes) budget) (runOf (c .bank) (c .bytes) budget)
 
--- A channel of a frame is answered and left as such a run is, with one budget: what its first turn used, and what it was offered of the rest.
-pub record AsAlone (c : Brought) (a : Channel) (k : Bank) : Type 0 where
-  pub offered : ℕ
-  pub answer : a ≡ channelOf (aloneOf c (firstTurn c .0 .cycles + offered) .0)
-  pub bank : k ≡ aloneOf c (firstTurn c .0 .cycles + offered) .1
+-- what channel n is offered of a rest: what those before it leave
+abbrev pub offeredAt : ℕ → List Brought → ℕ → ℕ
+offeredAt rest [] n = rest
+offeredAt rest (c ∷ cs) zero = rest
+offeredAt rest (c ∷ cs) (suc n) = offeredAt (rest - secondTurn c rest .0 .cycles) cs n
+
+-- one budget for both turns of channel n: what its first turn used, and what it is offered
+abbrev pub bothTurns : List Brought → ℕ → ℕ
+bothTurns cs n = firstTurn (channelAt cs n) .0 .cycles + offeredAt (restOf cs) cs n
+
+-- A channel is answered and left as such a run is, with that budget.
+pub record AsAlone (c : Brought) (budget : ℕ) (a : Channel) (k : Bank) : Type 0 where
+  pub answer : a ≡ channelOf (aloneOf c budget .0)
+  pub bank : k ≡ aloneOf c budget .1

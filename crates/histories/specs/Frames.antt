@@ -9,7 +9,7 @@ use Rattle.unit.specs.Bank.{waits}
 use Rattle.frame.specs.Frame.{Brought, broughtBy, frameRefusal, frameOf}
 use Rattle.histories.specs.Continued.{remainderOf}
 
--- Frames after a first one: their guarantees by channel, and their cycles; "a waiting channel brings its remainder and a done one the empty list"
+-- Frames after a first one: their guarantees by channel, and their cycles. A waiting channel brings its remainder, another the empty list.
 pub record NextFrame : Type 0 where
   pub guarantees : List ℕ
   pub cycles : ℕ

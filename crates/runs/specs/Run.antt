@@ -109,13 +109,13 @@ marksOf k = record { status = k .status; enable = k .enable; waiting = k .waitin
 abbrev pub withMarks : Registers → Marks → Registers
 withMarks k m = record { general = k .general; b = k .b; ib = k .ib; status = m .status; enable = m .enable; waiting = m .waiting; left = m .left }
 
--- A run that is carried out: it goes on, and ends.
+-- the answer and the bank of a list that has been gone on with so far, ended
 abbrev pub outcomeOf : Bank → List ℕ → Turn × Registers → Outcome × Bank
 outcomeOf k bytes t =
     let n = t .0 .ran in
     leaving (record { refusal = 0; «end» = endOf n (operationsOf bytes); ran = n; cycles = t .0 .cycles }) (endedOf (withRegisters k (t .1)) bytes n)
 
--- a list within a budget, not refused
+-- A run that is carried out: it goes on, and ends.
 abbrev pub carriedOut : Bank → List ℕ → ℕ → Outcome × Bank
 carriedOut k bytes budget = outcomeOf k bytes (turnOf (k .registers) (operationsOf bytes) budget)
 
@@ -123,10 +123,12 @@ carriedOut k bytes budget = outcomeOf k bytes (turnOf (k .registers) (operations
 abbrev pub refusedOf : Bank → ℕ → Outcome × Bank
 refusedOf k r = leaving (record { refusal = r; «end» = 0; ran = 0; cycles = 0 }) (noted k 0)
 
--- a run, new or continued
+-- a run whose list gets the refusal r, 0 if none; a run, new or continued
+abbrev pub performedBy : ℕ → Bank → List ℕ → ℕ → Outcome × Bank
+performedBy r k bytes budget = cond (eqb r 0) (carriedOut k bytes budget) (refusedOf k r)
+
 unfoldable pub performOf : Bool → Bank → List ℕ → ℕ → Outcome × Bank
-performOf other k bytes budget =
-    cond (eqb (runRefusal other bytes) 0) (carriedOut k bytes budget) (refusedOf k (runRefusal other bytes))
+performOf other k bytes budget = performedBy (runRefusal other bytes) k bytes budget
 
 -- A new run on the bank: 14, "another run waits"
 abbrev pub runOf : Bank → List ℕ → ℕ → Outcome × Bank

@@ -7,7 +7,7 @@ ghost use lib.ListN.{length, take, drop};
 ghost use Rattle.unit.specs.Bank.{fresh, withEnable, bankOf, leaving};
 ghost use Rattle.unit.specs.Lent.{Sized, registersOf};
 ghost use Rattle.runs.specs.StatusByte.{withBit, statusOf, acknowledgeOf, interruptOf};
-ghost use Rattle.runs.specs.Run.{operationsOf, operationsRefusal, runRefusal, reaching, turnOf, endOf, statusBit, markedBy, withMarks, marksOf, endedOf, carriedOut, performOf, runOf, same, isRemainder, continueOf, dropOf};
+ghost use Rattle.runs.specs.Run.{operationsOf, operationsRefusal, runRefusal, reaching, turnOf, endOf, statusBit, markedBy, withMarks, marksOf, endedOf, performedBy, runOf, same, isRemainder, continueOf, dropOf};
 
 // How a run ended, if it was carried out.
 const DONE: u8 = 1;
@@ -79,7 +79,7 @@ fn operations_refusal(other: bool, ops: &[u8]) -> u8
     bits::CARRIED_OUT
 }
 
-// The lowest refusal of a run's list; 0 if it is carried out.
+// The lowest refusal of a run's list, or that of another run (`other`); 0 if it is carried out.
 pub fn run_refusal(other: bool, ops: &[u8]) -> u8
     ensures { λ r. ⌜ r ≡ runRefusal other (now (ops .entry)) ⌝ }
 {
@@ -210,8 +210,9 @@ fn turned_back(marks: Marks, number: u8) -> Performed
     }
 }
 
-// internal: a bank by its words, marks and list, and whole operations, at most 1,024. A run of them on it.
-pub fn carry_out(
+// internal: a bank by its words, marks and list, and where nothing is refused whole operations, at most 1,024. A run of them on it, or the refusal.
+pub fn perform(
+    refused: u8,
     general: &mut [u64; 16],
     b: &mut [u64; 3],
     ib: &mut [u64; 3],
@@ -220,10 +221,13 @@ pub fn carry_out(
     ops: &[u8],
     budget: u32,
 ) -> Performed
-    requires { ⌜ Sized (now general) (now b) (now ib) × (length (now list) ≡ 4096) × (length (now ops) % 4 ≡ 0) × (length (now ops) ≤ 4096) ⌝ }
+    requires { ⌜ Sized (now general) (now b) (now ib) × (length (now list) ≡ 4096) × (refused ≡ 0 → (length (now ops) % 4 ≡ 0) × (length (now ops) ≤ 4096)) ⌝ }
     ensures { λ r. ⌜ leaving (r .run) (bankOf (withMarks (registersOf (now (general .exit)) (now (b .exit)) (now (ib .exit))) (r .marks)) (now (list .exit)))
-        ≡ carriedOut (bankOf (withMarks (registersOf (now (general .entry)) (now (b .entry)) (now (ib .entry))) marks) (now (list .entry))) (now (ops .entry)) budget ⌝ }
+        ≡ performedBy refused (bankOf (withMarks (registersOf (now (general .entry)) (now (b .entry)) (now (ib .entry))) marks) (now (list .entry))) (now (ops .entry)) budget ⌝ }
 {
+    if refused != 0 {
+        return turned_back(marks, refused);
+    }
     let turn = go_on(general, b, ib, ops, budget);
     let end = end_of(ops, turn.ran);
     let after = finish(marks, list, ops, turn.ran);
@@ -236,28 +240,6 @@ pub fn carry_out(
         },
         marks: after,
     }
-}
-
-// internal: a bank by its words, marks and list. A run of the operations on it, unless it is refused: for the list lent, or since `other` says so.
-fn perform(
-    other: bool,
-    general: &mut [u64; 16],
-    b: &mut [u64; 3],
-    ib: &mut [u64; 3],
-    marks: Marks,
-    list: &mut [u8; 4096],
-    ops: &[u8],
-    budget: u32,
-) -> Performed
-    requires { ⌜ Sized (now general) (now b) (now ib) × (length (now list) ≡ 4096) ⌝ }
-    ensures { λ r. ⌜ leaving (r .run) (bankOf (withMarks (registersOf (now (general .exit)) (now (b .exit)) (now (ib .exit))) (r .marks)) (now (list .exit)))
-        ≡ performOf other (bankOf (withMarks (registersOf (now (general .entry)) (now (b .entry)) (now (ib .entry))) marks) (now (list .entry))) (now (ops .entry)) budget ⌝ }
-{
-    let refused = run_refusal(other, ops);
-    if refused != 0 {
-        return turned_back(marks, refused);
-    }
-    carry_out(general, b, ib, marks, list, ops, budget)
 }
 
 // The marks of registers.
@@ -303,8 +285,9 @@ pub fn run(registers: unit::Registers, list: &mut [u8; 4096], ops: &[u8], budget
     let mut ib = registers.ib;
     let marks = marks_of(registers);
     let other = marks.waiting != 0;
+    let refused = run_refusal(other, ops);
     let after = perform(
-        other,
+        refused,
         &mut general,
         &mut b,
         &mut ib,
@@ -360,8 +343,9 @@ pub fn continue_run(
     let marks = marks_of(registers);
     let waits = marks.waiting != 0;
     let remainder = is_remainder(marks.left, list, ops);
+    let refused = run_refusal(!(waits & remainder), ops);
     let after = perform(
-        !(waits & remainder),
+        refused,
         &mut general,
         &mut b,
         &mut ib,

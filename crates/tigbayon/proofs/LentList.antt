@@ -2,6 +2,7 @@
 --     lends-list       `fn(&mut Bank, ops: &[u8], budget: u32) -> Outcome`, whose promise is f of the bank, the list of operations and the budget: the outcome, and the bank that it leaves
 --     list-lent        the bank's cell is taken apart, and its list lent for a lifetime.        list-back        once that has ended, the cell is put together at the list's last value
 --     bank-lent        the bank's registers are copied out, and its list lent for a lifetime of its own.        bank-back        that has ended: the list is taken back, and other registers are stored
+--     list-pointed     the address of its list is taken
 -- The use tells, by `refl`, that this is what the function promises: where it is not, the error names what differs.
 -- Assumes nothing.
 use mathlib.Core.Path.{_≡_, refl, sym, subst}

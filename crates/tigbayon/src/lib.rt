@@ -1,7 +1,7 @@
 // The exported C functions, declared in include/tigbayon.h: all calls of paper 01 ('Lines, masks, orders' to 'The register unit'), those of
-// prepared networks, and of paper 02 the bit planes, tiles, subwords, planes of pixels, permutations by groups, and the status and continued runs of the register
-// unit. Each hands its arguments to one call. No logic is here, and each promise is that call's. The host lends its register bank: its registers are copied out,
-// and what the call leaves is stored back; its list is lent on to a run.
+// prepared networks, and of paper 02 the bit planes, tiles, subwords, planes of pixels, permutations by groups, the status and continued runs of the register
+// unit, and frames of four channels. Each hands its arguments to one call. No logic is here, and each promise is that call's. The host lends its register bank, to
+// a frame four: the registers are copied out, and what the call leaves is stored back; the list is lent on to a run or a frame.
 ghost use mathlib.Core.Path.{_≡_};
 ghost use mathlib.Core.Bool.{true, false};
 ghost use mathlib.Core.List.{[], _∷_, reverse};

@@ -15,8 +15,9 @@
 //! other from the top, and [`despeckle`] puts out its lone pixels. A [`Bank`] holds the
 //! registers of a unit that performs lists of operations of width 64, two bytes by
 //! which their ends are polled, and what is left of a list while it waits for a fresh
-//! budget; [`frame`] runs four of them on one count of cycles. Each function here is answered for every input: with its
-//! result, or with the lowest [`Refusal`] that applies.
+//! budget; [`frame()`] runs four of them on one count of cycles. Each function here is
+//! answered for every input: with its result, or with the lowest [`Refusal`] that
+//! applies.
 
 mod ffi;
 mod frame;
