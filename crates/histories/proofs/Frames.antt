@@ -1,13 +1,13 @@
 -- Req 11: what holds of a frame and of each of its channels, for any number of them. Assumes nothing.
-use mathlib.Core.Path.{_≡_, refl, sym, _∙_, ap}
+use mathlib.Core.Path.{_≡_, refl, sym, _∙_, ap, subst}
 use mathlib.Core.Bool.{Bool, true, false, not, cond, _&&_}
 use mathlib.Core.List.{List, [], _∷_, _++_, map}
 use Prim.Native.Nat.{ℕ, zero, suc, _+_, _-_, _<_, _≤_}
 use native.Mathlib.Omega.{arith}
 use native.Mathlib.Nat.{not-suc-le-zero}
 use lib.Dec.{ltb}
-use lib.ListN.{length, getD, take, drop, length-append, drop-of-length-le}
-use lib.Seq.{getD-at}
+use lib.ListN.{length, getD, take, drop, length-append, length-drop, drop-of-length-le}
+use lib.Seq.{getD-at, take-add, drop-drop}
 use borrow.Author.Tests.{eq-eqb, ltb-false}
 use Rattle.bits.specs.Refusal.{AnswersLowest}
 use Rattle.bits.proofs.Refusals.{answers-lowest, every-answer}
@@ -16,13 +16,13 @@ use Rattle.unit.specs.Bank.{freshBank, waits, leaving}
 use Rattle.unit.specs.Operation.{Operation}
 use Rattle.runs.specs.declared.Outcome.{Outcome}
 use Rattle.runs.specs.Run.{operationsOf, stepsOf, sumOf, ranOf, runRefusal, reaching, endOf, noted, outcomeOf, carriedOut, performOf, isRemainder}
-use Rattle.runs.proofs.Runs.{ran-le, ran-within, ran-more}
+use Rattle.runs.proofs.Runs.{ran-le, ran-within, ran-next, ran-more, sum-append}
 use Rattle.frame.specs.declared.Channel.{Channel}
 use Rattle.frame.specs.declared.Frame.{Frame}
 use Rattle.frame.specs.Frame.{Brought, firstTurn, restOf, secondTurn, offeredOf, otherWaits, guaranteed, frameConditions, frameRefusal, channelOf, framedOf, refusedFrame, frameOf}
 use Rattle.frame.proofs.Lowering.{AllAccepted, frame-accepts}
 use Rattle.frame.proofs.OneBudget.{turns-are, frame-refused}
-use Rattle.histories.specs.Channels.{channelAt, answerAt, bankAt, cyclesIn, aloneOf, offeredAt, bothTurns, AsAlone}
+use Rattle.histories.specs.Channels.{channelAt, answerAt, bankAt, cyclesIn, nextCycles, aloneOf, offeredAt, bothTurns, AsAlone}
 use Rattle.histories.proofs.Runs.{perform-is}
 
 -- Demand 1: the lowest refusal of a frame, zeros beside it and, but for status bit 2 in each, the banks as they were.
@@ -117,6 +117,40 @@ accepted-at [] a n h = absurd (not-suc-le-zero h)
 accepted-at (c ∷ cs) a zero h = a .0
 accepted-at (c ∷ cs) a (suc n) h = accepted-at cs (a .1) n (omega arith)
 
+-- a channel uses no less than in its first turn
+offered-least : (rest : ℕ) (cs : List Brought) → firstCycles cs ≤ offeredCycles rest cs
+unfolding firstCycles offeredOf cyclesIn
+offered-least rest [] = omega arith
+offered-least rest (c ∷ cs) = let e = offered-least (rest - secondTurn c rest .0 .cycles) cs in omega (arith, e)
+
+-- a turn stops where the next operation does not fit in what it leaves
+turn-next : (n budget : ℕ) (os : List Operation) → let m = ranOf budget (drop n os) in n + m < length os → budget - sumOf (take m (drop n os)) < nextCycles (n + m) os
+turn-next n budget os h =
+    let ps = drop n os in
+    let m = ranOf budget ps in
+    let l = length-drop n os in
+    let r = ran-next budget ps (omega (arith, l)) in
+    let e : suc m ≡ m + 1 = omega arith in
+    let a : sumOf (take (suc m) ps) ≡ sumOf (take m ps) + sumOf (take 1 (drop m ps)) =
+    ap (λ (x : ℕ). sumOf (take x ps)) e ∙ ap sumOf (take-add m 1 ps) ∙ sum-append (take m ps) (take 1 (drop m ps))
+    in
+    let d : sumOf (take 1 (drop m ps)) ≡ nextCycles (n + m) os = ap (λ (qs : List Operation). sumOf (take 1 qs)) (drop-drop m n os) in
+    let w = ran-within budget ps in
+    omega (arith, r, a, d, w)
+
+offered-next : (rest : ℕ) (cs : List Brought) (n : ℕ) → n < length cs → let os = operationsOf (channelAt cs n .bytes) in let m = getD (offeredOf rest cs) n nothing .0 .ran in
+    m < length os → firstCycles cs + rest < offeredCycles rest cs + nextCycles m os
+unfolding firstCycles offeredOf cyclesIn
+offered-next rest [] n h l = absurd (not-suc-le-zero h)
+offered-next rest (c ∷ cs) zero h l =
+    let t = turn-next (firstTurn c .0 .ran) rest (operationsOf (c .bytes)) l in
+    let e = offered-least (rest - secondTurn c rest .0 .cycles) cs in
+    omega (arith, t, e)
+offered-next rest (c ∷ cs) (suc n) h l =
+    let w = ran-within rest (drop (firstTurn c .0 .ran) (operationsOf (c .bytes))) in
+    let e = offered-next (rest - secondTurn c rest .0 .cycles) cs n (omega arith) l in
+    omega (arith, w, e)
+
 -- a run of n operations of a channel's list
 abbrev ranTo : Brought → ℕ → Channel × Bank
 ranTo c n =
@@ -176,6 +210,20 @@ module _ (cs : List Brought) (cycles : ℕ) (e : frameRefusal cs cycles ≡ 0) (
       let g = ap (λ (o : Outcome × Bank). o .0 .ran) (alone (c .guarantee)) in
       let r = ran-is in
       omega (arith, g, r)
+
+  -- Nothing is kept from a channel: one that has an operation left stops since that does not fit in what all of them left of the guarantees.
+  pub frame-next : answerAt f n .ran < length os → guaranteed cs - cyclesIn (f .0 .channels) < nextCycles (answerAt f n .ran) os
+  frame-next l =
+      let o = offeredOf (restOf cs) cs in
+      let a : answerAt f n .ran ≡ getD o n nothing .0 .ran =
+      ap (λ (g : Frame × List Bank). answerAt g n .ran) carried ∙ ap (λ (x : Channel). x .ran) (getD-map (λ x. channelOf (x .0)) o n nothing)
+      in
+      let x : firstCycles cs + restOf cs < offeredCycles (restOf cs) cs + nextCycles (getD o n nothing .0 .ran) os = offered-next (restOf cs) cs n h (subst (λ (m : ℕ). m < length os) a l) in
+      let y = ap (λ (g : Frame × List Bank). cyclesIn (g .0 .channels)) carried in
+      let w = offered-within (restOf cs) cs in
+      let g = first-all cs in
+      let d = ap (λ (m : ℕ). nextCycles m os) a in
+      omega (arith, x, y, w, g, d)
 
   -- what a channel is answered and left hangs on the operations that it ran
   pub by-ran : leaving (answerAt f n) (bankAt f n) ≡ ranTo c (answerAt f n .ran)

@@ -3,11 +3,12 @@ use mathlib.Core.Path.{_≡_}
 use Prim.Native.Nat.{ℕ, zero, suc, _+_, _-_}
 use mathlib.Core.Bool.{cond}
 use mathlib.Core.List.{List, [], _∷_}
-use lib.ListN.{getD}
+use lib.ListN.{getD, take, drop}
 use Rattle.unit.specs.declared.Bank.{Bank}
 use Rattle.unit.specs.Bank.{freshBank, waits}
+use Rattle.unit.specs.Operation.{Operation}
 use Rattle.runs.specs.declared.Outcome.{Outcome}
-use Rattle.runs.specs.Run.{runOf, continueOf}
+use Rattle.runs.specs.Run.{sumOf, runOf, continueOf}
 use Rattle.frame.specs.declared.Channel.{Channel}
 use Rattle.frame.specs.declared.Frame.{Frame}
 use Rattle.frame.specs.Frame.{Brought, firstTurn, restOf, secondTurn, channelOf}
@@ -26,6 +27,10 @@ bankAt f n = getD (f .1) n freshBank
 unfoldable pub cyclesIn : List Channel → ℕ
 cyclesIn [] = 0
 cyclesIn (x ∷ xs) = x .cycles + cyclesIn xs
+
+-- the cycles of the operation after the first n; 0 if there is none
+abbrev pub nextCycles : ℕ → List Operation → ℕ
+nextCycles n os = sumOf (take 1 (drop n os))
 
 -- "A list is a continued run where its bank waits, else a new one": that run by itself
 abbrev pub aloneOf : Brought → ℕ → Outcome × Bank

@@ -2,7 +2,7 @@
 // and are continued (Req 10).
 ghost use mathlib.Core.Path.{_≡_};
 ghost use mathlib.Core.List.{_++_};
-ghost use Prim.Native.Nat.{_*_, _%_, _^_, _≤_};
+ghost use Prim.Native.Nat.{_*_, _/_, _%_, _^_, _≤_};
 ghost use lib.ListN.{length, take, drop};
 ghost use Rattle.unit.specs.Bank.{fresh, withEnable, bankOf, leaving};
 ghost use Rattle.unit.specs.Lent.{Sized, registersOf};
@@ -106,25 +106,25 @@ fn go_on(
     let mut falling = unit::kept_for(false, [0u64; 3]);
     let mut rising = unit::kept_for(true, [0u64; 3]);
     let mut left = budget;
-    let mut ran: u32 = 0;
     let mut at: usize = 0;
     while at < ops.len() {
         let cycles = unit::cycles_of(ops[at]);
         if left < cycles {
-            return reached(ran, budget - left);
+            return reached(at, budget - left);
         }
         unit::step(general, b, ib, &mut falling, &mut rising, ops, at);
         left -= cycles;
-        ran += 1;
         at += 4;
     }
-    reached(ran, budget - left)
+    reached(at, budget - left)
 }
 
-// So far.
-fn reached(ran: u32, cycles: u32) -> Turn
-    ensures { λ r. ⌜ r ≡ record { ran = ran; cycles = cycles } ⌝ }
+// internal: bytes of a list. The operations that they are, with their cycles.
+fn reached(bytes: usize, cycles: u32) -> Turn
+    requires { ⌜ bytes ≤ 4096 ⌝ }
+    ensures { λ r. ⌜ r ≡ record { ran = bytes / 4; cycles = cycles } ⌝ }
 {
+    let ran = (bytes / 4) as u32;
     Turn { ran, cycles }
 }
 

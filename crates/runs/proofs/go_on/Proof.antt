@@ -1,7 +1,8 @@
 -- `runs::go_on` meets its contract. Assumes nothing.
 use mathlib.Core.Path.{_≡_, refl}
 use mathlib.Core.Bool.{true, false}
-use Prim.Native.Nat.{_+_, _-_, _*_, _<_, _≤_}
+use Prim.Native.Nat.{_+_, _-_, _*_, _/_, _%_, _<_, _≤_}
+use native.Mathlib.Omega.{arith}
 use borrow.Author.Needs.{needs}
 use lib.ListN.{length, drop, replicate}
 use Rattle.unit.specs.Operation.{operationAt}
@@ -15,12 +16,12 @@ use Rattle.runs.proofs.go_on.Statement.{statement}
 use Rattle.runs.proofs.go_on.Tie as tie
 
 abbrev Inv-loop : tie.InvT-loop
-Inv-loop general₀ b₀ ib₀ ops budget falling₀ rising₀ left₀ ran₀ at₀ general b ib falling rising left ran at =
-    (at ≤ length ops) × (at ≡ ran * 4) × Sized general b ib × KeptNetwork false falling × KeptNetwork true rising
-    × Going (registersOf general₀ b₀ ib₀) (operationsOf ops) budget (registersOf general b ib) left ran (operationsOf (drop at ops))
+Inv-loop general₀ b₀ ib₀ ops budget falling₀ rising₀ left₀ at₀ general b ib falling rising left at =
+    (at ≤ length ops) × (at % 4 ≡ 0) × Sized general b ib × KeptNetwork false falling × KeptNetwork true rising
+    × Going (registersOf general₀ b₀ ib₀) (operationsOf ops) budget (registersOf general b ib) left (at / 4) (operationsOf (drop at ops))
 
 abbrev μ-loop : tie.MeasureT-loop
-μ-loop general₀ b₀ ib₀ ops budget falling₀ rising₀ left₀ ran₀ at₀ general b ib falling rising left ran at = length ops - at
+μ-loop general₀ b₀ ib₀ ops budget falling₀ rising₀ left₀ at₀ general b ib falling rising left at = length ops - at
 
 loop-holds : tie.Need-loop-holds Inv-loop μ-loop
 loop-holds c = (
@@ -49,7 +50,8 @@ loop-again c =
     let h : l .at + 3 < length ops = search needs in
     let g = rw (operations-next ops (l .at) h) at (l .inv .5) in
     let e = c .step .ensures .0 in
-    (search needs, search needs, sized-after (registersOf (l .general) (l .b) (l .ib)) (operationAt ops (l .at)) (l .inv .2) e, c .step .ensures .1, c .step .ensures .2, going-next g (b .cycles-of .ensures) (search needs) e)
+    let n : (l .at + 4) / 4 ≡ l .at / 4 + 1 = omega arith in
+    (search needs, search needs, sized-after (registersOf (l .general) (l .b) (l .ib)) (operationAt ops (l .at)) (l .inv .2) e, c .step .ensures .1, c .step .ensures .2, rw n (going-next g (b .cycles-of .ensures) (search needs) e))
 
 returns-2 : tie.Need-returns-2 Inv-loop μ-loop
 returns-2 c =
@@ -72,7 +74,6 @@ go-on-spec =
     (λ c κs. search needs)
     returns
     (λ c κs. search needs)
-    (λ c. search needs)
     (λ c. search needs)
     (λ c. search needs)
     loop-again
