@@ -191,6 +191,9 @@ module _ (cs : List Brought) (cycles : ℕ) (e : frameRefusal cs cycles ≡ 0) (
         bank = ap (λ (g : Frame × List Bank). bankAt g n) carried ∙ getD-map (λ o. o .1) (offeredOf (restOf cs) cs) n nothing ∙ ap (λ (o : Outcome × Bank). o .1) o;
       }
 
+  pub frame-bank : bankAt f n ≡ performOf (otherWaits c) (c .bank) (c .bytes) (bothTurns cs n) .1
+  frame-bank = frame-channel .bank ∙ ap (λ (o : Outcome × Bank). o .1) (alone-is c (bothTurns cs n))
+
   abbrev os : List Operation
   os = operationsOf (c .bytes)
 
@@ -287,9 +290,5 @@ module _ (before after : List Brought) (c : Brought) (cycles : ℕ) where
 
   pub performed-in : frameRefusal all cycles ≡ 0 → LeftByRun c left
   performed-in z =
-      let a = frame-channel all cycles z (length before) within in
       let m = bothTurns all (length before) in
-      record {
-        budget = m;
-        is = a .bank ∙ ap (λ (o : Outcome × Bank). o .1) (alone-is (channelAt all (length before)) m) ∙ ap (λ (x : Brought). performOf (otherWaits x) (x .bank) (x .bytes) m .1) here;
-      }
+      record { budget = m; is = frame-bank all cycles z (length before) within ∙ ap (λ (x : Brought). performOf (otherWaits x) (x .bank) (x .bytes) m .1) here }

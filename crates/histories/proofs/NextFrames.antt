@@ -31,7 +31,7 @@ use Rattle.histories.specs.Frames.{NextFrame, nextList, nextBrought, fra
 use Rattle.histories.proofs.Runs.{perform-is, run-ample}
 use Rattle.histories.proofs.Waiting.{remainder-exactly}
 use Rattle.histories.proofs.Continuing.{Left, Came, came-performed, ran-some}
-use Rattle.histories.proofs.Frames.{alone-is, alone-carried, accepted-at, frame-channel, frame-refused-at}
+use Rattle.histories.proofs.Frames.{alone-is, alone-carried, accepted-at, frame-channel, frame-bank, frame-refused-at}
 
 -- A bank on its way through the operations os, from the registers k: so many have been run, and it waits for the others, or for none
 record Under (k : Registers) (os : List Operation) (j : Bank) : Type 0 where
@@ -185,11 +185,7 @@ frames-ample cs cycles e fs n h ample s w =
     let k = c .bank .registers in
     let os = operationsOf (c .bytes) in
     let z = accepted-at cs (frame-accepts cs cycles e .0) n h in
-    let a = frame-channel cs cycles e n h in
-    let m = bothTurns cs n in
-    let first : Under k os (bankAt (frameOf cs cycles) n) =
-    subst⁻¹ (Under k os) (a .bank ∙ ap (λ (x : Outcome × Bank). x .1) (alone-is c m)) (under-first (otherWaits c) (c .bank) (c .bytes) m z)
-    in
+    let first : Under k os (bankAt (frameOf cs cycles) n) = subst⁻¹ (Under k os) (frame-bank cs cycles e n h) (under-first (otherWaits c) (c .bank) (c .bytes) (bothTurns cs n) z) in
     let l = frame-long cs cycles in
     let u = under-frames k os n (frameOf cs cycles .1) fs (omega (arith, l, h)) first in
     under-done k os (getD (framesOf (frameOf cs cycles .1) fs) n freshBank) u w
@@ -345,19 +341,18 @@ module _ (k : Registers) (os : List Operation) (n : ℕ) where
 pub frames-end : (cs : List Brought) (cycles : ℕ) → frameRefusal cs cycles ≡ 0 → (fs : List NextFrame) (n : ℕ) → n < length cs
     → let c = channelAt cs n in 3 ≤ c .guarantee → AtLeastThreeFor n (frameOf cs cycles .1) fs → length (operationsOf (c .bytes)) ≤ suc (length fs)
     → waits (getD (framesOf (frameOf cs cycles .1) fs) n freshBank .registers) ≡ false
+unfolding under-first
 frames-end cs cycles e fs n h t a l =
     let c = channelAt cs n in
     let k = c .bank .registers in
     let os = operationsOf (c .bytes) in
     let z = accepted-at cs (frame-accepts cs cycles e .0) n h in
-    let o = frame-channel cs cycles e n h in
     let m = bothTurns cs n in
     let r = ran-more (ranOf (c .guarantee) os) (offeredAt (restOf cs) cs n) os (ran-le (c .guarantee) os) in
     let d = length-drop (ranOf m os) os in
     let few : length (drop (ranOf m os) os) ≤ length fs = ⊎-elim (λ x. omega (arith, d, x)) (λ x. omega (arith, d, l, r, x)) (ran-some (c .guarantee) os t) in
     let first : FewLeft k os (length fs) (bankAt (frameOf cs cycles) n) =
-    subst⁻¹ (FewLeft k os (length fs)) (o .bank ∙ ap (λ (x : Outcome × Bank). x .1) (alone-is c m))
-    (record { under = record { ran = ranOf m os; words = came-performed (otherWaits c) (c .bank) (c .bytes) m z .words; left = came-performed (otherWaits c) (c .bank) (c .bytes) m z .left }; few = few })
+    subst⁻¹ (FewLeft k os (length fs)) (frame-bank cs cycles e n h) (record { under = under-first (otherWaits c) (c .bank) (c .bytes) m z; few = few })
     in
     let long = frame-long cs cycles in
     few-frames k os n (frameOf cs cycles .1) fs (omega (arith, long, h)) first a
