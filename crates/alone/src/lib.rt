@@ -1,4 +1,6 @@
 // The control bits of one network alone (paper 01, 'One network').
+#![tactic(auto)]
+
 ghost use Rattle.std.specs.Prelude.{◌≡◌, true, false, ◌^◌, ◌≤◌, ◌<◌};
 ghost use Rattle.std.specs.Int.Bits.{bit_or};
 ghost use Rattle.routing.specs.Lists.{ListPermutes};

@@ -1,6 +1,7 @@
 // What every call of the unit shares: accepted widths, the refusal numbers, the count of ones (paper 01, 'What the unit covers' and
 // 'Calls turned back'), and the counts below each bit (paper 02, Req 04).
 #![tactic(auto)]
+
 ghost use Rattle.std.specs.Prelude.{◌≡◌, ℕ, ◌^◌, ◌<◌, ◌≤◌};
 ghost use Rattle.std.proofs.lemmas.List.Edits.{sets};
 ghost use Rattle.bits.specs.Bit.{byte_at, up_to, rank, counts_below};

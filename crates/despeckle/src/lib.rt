@@ -1,5 +1,7 @@
 // Lone pixels of a plane put out (paper 02, Req 06). A window of three by three pixels slides along each row; its number is looked up in the
 // published table.
+#![tactic(auto)]
+
 ghost use Rattle.std.specs.Prelude.{◌≡◌, ℕ, ◌+◌, ◌-◌, ◌*◌, ◌%◌, ◌^◌, ◌<◌, ◌≤◌, List, length};
 ghost use Rattle.bits.specs.Bit.{bit, up_to, overwritten};
 ghost use Rattle.despeckle.specs.Plane.{bordered, around, lit_rule, new_word};

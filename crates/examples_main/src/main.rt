@@ -1,4 +1,6 @@
 // Prints rows 12 and 13 of paper 01, 'Reel of examples': the row, a space, sixteen lower-case hexadecimal digits.
+#![tactic(auto)]
+
 ghost use Rattle.std.specs.Prelude.{◌<◌};
 
 use libc::STDOUT_FILENO;

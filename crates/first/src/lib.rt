@@ -1,4 +1,6 @@
 // The first controls of a butterfly followed by an inverse, for any permutation (paper 01, 'Finder').
+#![tactic(auto)]
+
 ghost use Rattle.std.specs.Prelude.{◌≡◌, not, cond, suc, ◌+◌, ◌*◌, ◌%◌, ◌^◌, ◌≤◌, ◌<◌, leb, length};
 ghost use Rattle.network.specs.Calls.{six};
 ghost use Rattle.routing.specs.Place.{weight};

@@ -1,5 +1,7 @@
 // Four channels in one frame of cycles (paper 02, Req 11). The turns of all four are counted before any channel runs: so each runs once, with one budget for both
 // of its turns, and ends as a run does.
+#![tactic(auto)]
+
 ghost use Rattle.std.specs.Prelude.{◌≡◌, [], ◌∷◌, cond, not, ◌&&◌, ℕ, ◌+◌, ◌-◌, ◌*◌, ◌<◌, ◌≤◌, eqb, length, get_or, set, drop, replicate};
 ghost use Rattle.bits.specs.Bit.{up_to};
 ghost use Rattle.bits.specs.Refusal.{lowest};

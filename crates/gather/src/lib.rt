@@ -1,4 +1,6 @@
 // Gather, scatter and group: the bits of a word by a mask (paper 01, 'Lines, masks, orders'; demand 2).
+#![tactic(auto)]
+
 ghost use Rattle.std.specs.Prelude.{◌≡◌, ◌+◌, ◌-◌, ◌*◌, ◌/◌, ◌^◌, ◌≤◌, ◌<◌};
 ghost use Rattle.std.specs.Int.Bits.{bit_and};
 ghost use Rattle.bits.specs.Bit.{rank};

@@ -1,4 +1,6 @@
 // Stages, both networks and the decoder from a mask to their controls (paper 01, 'Columns' and 'Decoder'; demand 3, its first half).
+#![tactic(auto)]
+
 ghost use Rattle.std.specs.Prelude.{◌≡◌, ℕ, ◌+◌, ◌-◌, ◌*◌, ◌^◌, ◌≤◌, ◌<◌, cond, true, false, reverse, get_or, take};
 ghost use Rattle.bits.specs.Bit.{of_bits, counts_below};
 ghost use Rattle.bits.specs.Refusal.{log_of, accepted};

@@ -1,4 +1,6 @@
 // Packed fields: the bits that a mask marks in each of many words, end to end (paper 01, 'Strips'; paper 02, Reqs 01 and 02; demand 2).
+#![tactic(auto)]
+
 ghost use Rattle.std.specs.Prelude.{◌≡◌, ◌+◌, ◌-◌, ◌*◌, ◌%◌, ◌≤◌, ◌<◌, not, eqb, length};
 ghost use Rattle.gather.specs.Gather.{gather_of, scatter_of};
 ghost use Rattle.bits.specs.Bit.{up_to, overwritten};

@@ -1,5 +1,7 @@
 // Permutations of the bits of a word: the first controls for butterfly then inverse, and one network alone
 // (paper 01, 'Finder' and 'One network'; demand 3 in one theorem).
+#![tactic(auto)]
+
 ghost use Rattle.std.specs.Prelude.{◌≡◌, cond, [], ◌≤◌};
 ghost use Rattle.bits.specs.Refusal.{lowest};
 ghost use Rattle.network.specs.Stage.{butterfly_of, inverse_of};

@@ -1,4 +1,6 @@
 // Bit planes: sixty-four bytes to eight planes and back, each by a list of 24 steps (paper 02, Req 03; source document 000).
+#![tactic(auto)]
+
 ghost use Rattle.std.specs.Prelude.{◌≡◌, true, ◌++◌, ◌+◌, ◌*◌, ◌/◌, ◌%◌, ◌^◌, ◌<◌, replicate};
 ghost use Rattle.bits.specs.Bit.{byte_at};
 ghost use Rattle.network.specs.Word.{pairs, spread_of};

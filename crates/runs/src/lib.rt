@@ -1,5 +1,7 @@
 // Runs of the register unit with a budget of cycles (paper 01, 'The register unit'; demand 2), the status and interrupt bytes (paper 02, Req 09), and runs that wait
 // and are continued (Req 10).
+#![tactic(auto)]
+
 ghost use Rattle.std.specs.Prelude.{◌≡◌, ◌++◌, ◌*◌, ◌/◌, ◌%◌, ◌^◌, ◌≤◌, length, take, drop};
 ghost use Rattle.unit.specs.Bank.{fresh, with_enable, bank_of, leaving};
 ghost use Rattle.unit.specs.Lent.{Sized, registers_of};

@@ -1,5 +1,7 @@
 // Subwords: check, exchange, excheck and mix of source document 002 (paper 02, Req 05). A pair is two subwords side by side; its right one is
 // the lower half of its bits.
+#![tactic(auto)]
+
 ghost use Rattle.std.specs.Prelude.{◌≡◌, true, cond, ℕ, ◌-◌, ◌^◌, ◌<◌};
 ghost use Rattle.network.specs.Word.{pairs};
 ghost use Rattle.subwords.specs.Subword.{subword, woven, check_of, exchange_pairs_of, excheck_of, mix_left_of, mix_right_of, is_size, subword_answer};

@@ -2,6 +2,8 @@
 // prepared networks, and of paper 02 the bit planes, tiles, subwords, planes of pixels, permutations by groups, the status and continued runs of the register
 // unit, and frames of four channels. Each hands its arguments to one call. No logic is here, and each promise is that call's. The host lends its register bank, to
 // a frame four: the registers are copied out, and what the call leaves is stored back; the list is lent on to a run or a frame.
+#![tactic(auto)]
+
 ghost use Rattle.std.specs.Prelude.{◌≡◌, true, false, [], ◌∷◌, reverse};
 ghost use Rattle.network.specs.Stage.{falling, rising, butterfly_of, inverse_of};
 ghost use Rattle.network.specs.Word.{exchanges_of};

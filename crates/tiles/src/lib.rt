@@ -1,5 +1,7 @@
 // Tiles of 8 by 8 bits, turned and mirrored (paper 02, Req 05). Row r is byte r of the word, row 0 on top; column c is bit c of that byte,
 // column 7 at the left.
+#![tactic(auto)]
+
 ghost use Rattle.std.specs.Prelude.{◌≡◌, ◌≤◌};
 ghost use Rattle.tiles.specs.Tile.{moved, transpose_rule, left_rule, right_rule, columns_rule, rows_rule};
 ghost use Rattle.tiles.specs.Steps.{mirror_of};

@@ -1,4 +1,6 @@
 // The register unit (paper 01, 'The register unit'; demand 2): its registers by value, one operation, reading and writing a general register.
+#![tactic(auto)]
+
 ghost use Rattle.std.specs.Prelude.{◌≡◌, ◌+◌, ◌-◌, ◌*◌, ◌/◌, ◌%◌, ◌^◌, ◌<◌, true, false, cond, ◌++◌, reverse, leb, length, get_or, set, take};
 ghost use Rattle.network.specs.Decoder.{decode_of, decode_inverse_of};
 ghost use Rattle.network.specs.Stage.{butterfly_of, inverse_of};

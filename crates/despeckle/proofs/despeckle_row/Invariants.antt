@@ -1,0 +1,24 @@
+-- What the loops of `despeckle::despeckle_row` keep. Assumes nothing.
+use mathlib.Core.Path.{◌≡◌, ◌∙◌, ap}
+use mathlib.Core.List.{List}
+use Prim.Native.Nat.{ℕ, ◌+◌, ◌-◌, ◌*◌, ◌<◌, ◌≤◌}
+use native.Mathlib.Omega.{arith}
+use lib.ListN.{length, length-set}
+use borrow.Author.Rules.{rules}
+use Rattle.bits.specs.Bit.{overwritten}
+use Rattle.bits.proofs.FilledLists.{fill-next}
+use Rattle.despeckle.specs.Plane.{bordered, around, new_word}
+use Rattle.despeckle.proofs.Border.{index-lt}
+use Rattle.despeckle.proofs.Sliding.{window-lt}
+use Rattle.despeckle.proofs.Rows.{number-next, word-passed}
+use Rattle.despeckle.proofs.despeckle_row.Given as goal
+
+abbrev pub invariant-loop-at : goal.invariant-loop-at
+invariant-loop-at l =
+    (l.at ≤ l.words)
+    × (length l.out ≡ length l.initial.out)
+    × (l.number ≡ around l.plane l.words l.rows l.row (64 * l.at))
+    × ((old : List ℕ) → l.initial.out ≡ overwritten (l.row * l.words) (new_word l.plane l.words l.rows) old → l.out ≡ overwritten (l.row * l.words + l.at) (new_word l.plane l.words l.rows) old)
+
+abbrev pub decreases-loop-at : goal.decreases-loop-at
+decreases-loop-at l = l.words - l.at
