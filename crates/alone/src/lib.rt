@@ -8,14 +8,14 @@ ghost use Rattle.alone.specs.Asked.{crossed, asked, unasked, asked_word, Within,
 ghost use Rattle.alone.specs.Calls.{Answers, fits_alone, alone};
 
 // Whether the network realises the permutation, and its six stages in the direction of travel; six zeros if it does not.
-#[derive(Drop)]
+#[derive(Clone, Copy)]
 pub struct Found {
     pub realised: bool,
     pub stages: [u32; 6],
 }
 
 // What routes ask of a stage: a one at each switch that they pass, and at each that they swap.
-#[derive(Drop)]
+#[derive(Clone, Copy)]
 struct Asked {
     pass: u32,
     swap: u32,

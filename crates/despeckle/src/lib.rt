@@ -17,7 +17,7 @@ const LONGEST: usize = 2048;
 const DARK: u64 = 0;
 
 // What a window that moved on leaves: its number there, and the new pixels of the columns that it passed, the leftmost in the highest bit.
-#[derive(Drop)]
+#[derive(Clone, Copy)]
 struct Slid {
     number: u64,
     word: u64,

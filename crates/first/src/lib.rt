@@ -12,7 +12,7 @@ ghost use Rattle.first.specs.Marks.{mark_of, swaps_from, controls_in, BlockFits,
 ghost use Rattle.first.specs.Blocks.{place_in, Settled, AtLast, AtFirst, Stepped, Halved, Peeled, Routable, BlockRouted, Placed};
 
 // The stages of both networks in the direction of travel.
-#[derive(Drop)]
+#[derive(Clone, Copy)]
 pub struct Stages {
     pub butterfly: [u32; 6],
     pub inverse: [u32; 6],

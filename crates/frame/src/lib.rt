@@ -12,7 +12,7 @@ ghost use Rattle.frame.specs.Offers.{Whole, counted_of, CountedFirst, rest_after
 
 // How one channel was run: its end (1 done, 2 spent), the operations run and the cycles used, of both turns together; zeros in a refused frame.
 #[repr(C)]
-#[derive(Drop)]
+#[derive(Clone, Copy)]
 pub struct Channel {
     pub end: u8,
     pub ran: u32,
@@ -21,14 +21,14 @@ pub struct Channel {
 
 // What a frame answers, channel by channel.
 #[repr(C)]
-#[derive(Drop)]
+#[derive(Clone, Copy)]
 pub struct Frame {
     pub refusal: u8,
     pub channels: [Channel; 4],
 }
 
 // A frame's answer, and the registers of the four banks after it.
-#[derive(Drop)]
+#[derive(Clone, Copy)]
 pub struct Framed {
     pub frame: Frame,
     pub registers0: unit::Registers,
@@ -38,7 +38,7 @@ pub struct Framed {
 }
 
 // A channel's first turn, counted: the operations run, the cycles used, and what is left of its guarantee.
-#[derive(Drop)]
+#[derive(Clone, Copy)]
 struct First {
     ran: u32,
     used: u32,

@@ -1,11 +1,10 @@
 -- Gather, scatter and group at width 64 are those at every width that holds the mask and the word; the sum that makes group.
 -- Assumes nothing.
 use mathlib.Core.Path.{◌≡◌, sym, ◌∙◌, ap}
-use Prim.Native.Nat.{ℕ, zero, suc, ◌+◌, ◌-◌, ◌*◌, ◌%◌, ◌^◌, ◌<◌, ◌≤◌, min}
+use Prim.Native.Nat.{ℕ, zero, suc, ◌+◌, ◌-◌, ◌*◌, ◌^◌, ◌<◌, ◌≤◌, min}
 use native.Mathlib.Omega.{arith}
 use native.Mathlib.Decide.{dec_lt}
-use native.Mathlib.Nat.{mod-eq_of_lt, lt_of_mul-lt-mul_right, one-mul, zero-mul, zero-add, zero-min}
-use lib.Arith.{lt-one}
+use native.Mathlib.Nat.{zero-mul, zero-add, zero-min}
 use lib.Pow.{pow_mono, shl_lt}
 use Rattle.bits.specs.Bit.{bit, rank, marked, unmarked}
 use Rattle.bits.proofs.Word.{bit-above}

@@ -1,12 +1,12 @@
 -- The laws of words in parts of equal size: sums, products and bit operations go part by part, and a part is two of half its size.
 -- Assumes nothing.
 use mathlib.Core.Path.{◌≡◌, refl, sym, ◌∙◌, ap, ap₂}
-use Prim.Native.Nat.{ℕ, zero, suc, ◌+◌, ◌-◌, ◌*◌, ◌/◌, ◌%◌, ◌^◌, ◌<◌, ◌≤◌}
+use Prim.Native.Nat.{ℕ, zero, suc, ◌+◌, ◌*◌, ◌/◌, ◌%◌, ◌^◌, ◌<◌}
 use native.Mathlib.Omega.{arith}
-use native.Mathlib.Nat.{div-one, pow-zero, mod-lt, div-eq_of_lt, zero-mul, mul-div_cancel}
+use native.Mathlib.Nat.{div-one, zero-mul, mul-div_cancel}
 use lib.Arith.{digits_lt, lt-one}
 use lib.Bits.{bit_and, bit_or, bit_xor, and_block, or_block, xor_block}
-use lib.Pow.{pow_pos, pow-add, shr-shr, shr_lt, high, low, split}
+use lib.Pow.{pow_pos, pow-add, shr-shr, shr_lt, high, split}
 use Rattle.gather.specs.Parts.{in_parts}
 
 -- each part is below 2 ^ k

@@ -9,7 +9,7 @@ ghost use Rattle.gather.specs.Gather.{gather_of, scatter_of, group_of, refusal_o
 
 // What a call answers: 0, the count of the mask's ones and the word, or the number of the refusal and zeros.
 #[repr(C)]
-#[derive(Drop)]
+#[derive(Clone, Copy)]
 pub struct Gathered {
     pub refusal: u8,
     pub count: u32,
@@ -36,7 +36,7 @@ fn refusal(width: u32, mask: u64, word: u64) -> u8
 }
 
 // What a mask says of its parts: of each part of 2, 4 and 8 bits, the unmarked places of its lower half, and of each byte, its marked places.
-#[derive(Drop)]
+#[derive(Clone, Copy)]
 struct Levels {
     gaps1: u64,
     gaps2: u64,

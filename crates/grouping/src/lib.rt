@@ -11,7 +11,7 @@ ghost use Rattle.grouping.specs.Destinations.{pass_mask, pass_masks, Half, AtSte
 
 // What `route_groups` answers: 0 and the masks of its steps, zeros after them, or the number of the refusal and zeros.
 #[repr(C)]
-#[derive(Drop)]
+#[derive(Clone, Copy)]
 pub struct Masks {
     pub refusal: u8,
     pub masks: [u64; 6],

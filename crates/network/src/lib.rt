@@ -11,14 +11,14 @@ ghost use Rattle.network.specs.Calls.{used_bits, controls_fit, network_refusal, 
 
 // The control bits of one network: six stages in the direction of travel (paper 01: settings). One passes, zero swaps.
 #[repr(C)]
-#[derive(Drop)]
+#[derive(Clone, Copy)]
 pub struct Controls {
     pub stages: [u32; 6],
 }
 
 // What a network answers: 0 and the word, or the number of the refusal and a zero.
 #[repr(C)]
-#[derive(Drop)]
+#[derive(Clone, Copy)]
 pub struct Carried {
     pub refusal: u8,
     pub word: u64,
@@ -27,7 +27,7 @@ pub struct Carried {
 // A prepared network, for many words: 0 and for each stage, from the widest, ones at the lower places of the pairs that swap; or the number
 // of the refusal and zeros.
 #[repr(C)]
-#[derive(Drop)]
+#[derive(Clone, Copy)]
 pub struct Prepared {
     pub refusal: u8,
     pub swaps: [u64; 6],
@@ -35,7 +35,7 @@ pub struct Prepared {
 
 // What the decoder answers: 0 and the controls of both networks, or the number of the refusal and zeros.
 #[repr(C)]
-#[derive(Drop)]
+#[derive(Clone, Copy)]
 pub struct Decoded {
     pub refusal: u8,
     pub butterfly: Controls,

@@ -11,7 +11,7 @@ ghost use Rattle.pack.specs.Calls.{fields_refusal, unpack_refusal, fields_answer
 
 // What a call answers: 0, the count of the mask's ones and the number of bits, or the number of the refusal and zeros.
 #[repr(C)]
-#[derive(Drop)]
+#[derive(Clone, Copy)]
 pub struct Packed {
     pub refusal: u8,
     pub count: u32,
@@ -23,7 +23,7 @@ const LONGEST: usize = 2048;
 
 // A place in packed words: the next word to be written or read. `pending` has `held` bits (fewer than 64), put and not yet written, or read and
 // not yet taken.
-#[derive(Drop)]
+#[derive(Clone, Copy)]
 struct Cursor {
     word: usize,
     held: u64,
@@ -31,14 +31,14 @@ struct Cursor {
 }
 
 // The fields of two words.
-#[derive(Drop)]
+#[derive(Clone, Copy)]
 struct Pair {
     low: u64,
     high: u64,
 }
 
 // A field in the low bits, and the cursor after it.
-#[derive(Drop)]
+#[derive(Clone, Copy)]
 struct Taken {
     field: u64,
     next: Cursor,

@@ -13,7 +13,7 @@ ghost use Rattle.permute.specs.Calls.{entries_conditions, route_refusal, route_a
 
 // What `route` answers: 0 and the controls of both networks, or the number of the refusal and zeros.
 #[repr(C)]
-#[derive(Drop)]
+#[derive(Clone, Copy)]
 pub struct Routed {
     pub refusal: u8,
     pub butterfly: network::Controls,
@@ -22,7 +22,7 @@ pub struct Routed {
 
 // What one network alone answers: 0 and its controls, or the number of the refusal and zeros.
 #[repr(C)]
-#[derive(Drop)]
+#[derive(Clone, Copy)]
 pub struct RoutedOne {
     pub refusal: u8,
     pub controls: network::Controls,

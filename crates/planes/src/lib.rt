@@ -10,14 +10,14 @@ ghost use Rattle.planes.specs.Rounds.{result_by, fill_steps, step_at, round_step
 
 // Eight planes, or the eight words of sixty-four bytes.
 #[repr(C)]
-#[derive(Drop)]
+#[derive(Clone, Copy)]
 pub struct Planes {
     pub words: [u64; 8],
 }
 
 // Eight steps, a byte each, the first of them in the low byte. Sources: the first, the second. Fields: their width, the half of each that is
 // kept.
-#[derive(Drop)]
+#[derive(Clone, Copy)]
 struct Round {
     sources: [u64; 2],
     fields: [u64; 2],

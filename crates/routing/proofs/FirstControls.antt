@@ -6,7 +6,7 @@ use Prim.Native.Nat.{ℕ, ◌^◌, ◌<◌}
 use Rattle.routing.specs.Place.{Place, num, place}
 use Rattle.routing.specs.Loop.{Maps, IsPermutation}
 use Rattle.routing.specs.Net.{inverse_source, Net, net_source, NetRealises, first_net}
-use Rattle.routing.specs.Stages.{Butterfly, Inverse, butterfly, inverse, StageControls, network, Agree, ComesLater, flat, net_controls}
+use Rattle.routing.specs.Stages.{Butterfly, Inverse, butterfly, StageControls, network, Agree, ComesLater, flat, net_controls}
 use Rattle.routing.specs.FirstControls.{Permutes, Brings, IsFirst, on_places, first_controls}
 use Rattle.routing.proofs.Stage.{maps-path}
 use Rattle.routing.proofs.PlaceNumbers.{num-lt, place-num, num-place}

@@ -21,7 +21,7 @@ const STATUS_SPENT: u8 = 2;
 const STATUS_REFUSED: u8 = 4;
 
 // How far a list was carried out: the operations run and their cycles.
-#[derive(Drop)]
+#[derive(Clone, Copy)]
 pub struct Turn {
     pub ran: u32,
     pub cycles: u32,
@@ -29,7 +29,7 @@ pub struct Turn {
 
 // What a run answers: how it ended (0 refused, 1 done, 2 spent), the operations run and the cycles used; zeros beside a refusal.
 #[repr(C)]
-#[derive(Drop)]
+#[derive(Clone, Copy)]
 pub struct Outcome {
     pub refusal: u8,
     pub end: u8,
@@ -38,7 +38,7 @@ pub struct Outcome {
 }
 
 // The registers beside the words: the status and enable bytes, and the marks of waiting.
-#[derive(Drop)]
+#[derive(Clone, Copy)]
 pub struct Marks {
     pub status: u8,
     pub enable: u8,
@@ -47,14 +47,14 @@ pub struct Marks {
 }
 
 // A run's answer, and the marks after it.
-#[derive(Drop)]
+#[derive(Clone, Copy)]
 pub struct Performed {
     pub run: Outcome,
     pub marks: Marks,
 }
 
 // A run's answer, and the registers after it.
-#[derive(Drop)]
+#[derive(Clone, Copy)]
 pub struct Ran {
     pub run: Outcome,
     pub registers: unit::Registers,

@@ -133,7 +133,7 @@ pub record Callee {M : Type 1} {𝓤 : Ura M} (𝓛 : Logic 𝓤) (C : Calls �
   pub told : (r : Res ended.signature at.0.0) (ws : Lasts ended at.0.0 at.0.3) → ent 𝓤 ((clauses at.0.0 at.0.3).ensures at.1 r (at_exit ended at.0.0 at.0.3 ws)) (fact 𝓤 (φ r))
   pub others : Fml
   pub twice : ent 𝓤 (sem 𝓛 others) (sep 𝓤 (sem 𝓛 others) (sem 𝓛 others))
-  pub pays : ent 𝓤 (sep 𝓤 (alive 𝓛 ended.signature at.0.0 at.0.1) (sep 𝓤 (sem 𝓛 ((N.the_row).own_val h (registers_val h ∷ []))) (sem 𝓛 others))) ((contract_of 𝓛 ended clauses).pre at)
+  pub pays : ent 𝓤 (sep 𝓤 (alive 𝓛 ended.signature at.0.0 at.0.1) (sep 𝓤 (sem 𝓛 ((N.the_row).own h (registers_val h ∷ []))) (sem 𝓛 others))) ((contract_of 𝓛 ended clauses).pre at)
 
 module _ {M : Type 1} {𝓤 : Ura M} {𝓛 : Logic 𝓤} {C : Calls 𝓤 𝓛.H} {f : Name} {h : Registers} (g : Callee 𝓛 C f h) where
   -- what it asks, the tokens that it hands back, its answer's type
@@ -151,7 +151,7 @@ module _ {M : Type 1} {𝓤 : Ura M} (𝓛 : Logic 𝓤) {C : Calls 𝓤 𝓛.H}
   abbrev pub calling : (S : Ended) (c : Clauses 𝓤 S) → Triple 𝓤 (C f) (contract_of 𝓛 S c) → (y : (contract_of 𝓛 S c).Ghost) (φ : Res S.signature y.0.0 → Type 0)
       → ((r : Res S.signature y.0.0) (ws : Lasts S y.0.0 y.0.3) → ent 𝓤 ((c y.0.0 y.0.3).ensures y.1 r (at_exit S y.0.0 y.0.3 ws)) (fact 𝓤 (φ r)))
       → (Ts : List RattleType) → Copies 𝓛 Ts → (a : Denots Ts) (vss : Valss Ts)
-      → ent 𝓤 (sep 𝓤 (alive 𝓛 S.signature y.0.0 y.0.1) (sep 𝓤 (sem 𝓛 ((N.the_row).own_val h (registers_val h ∷ []))) (sem 𝓛 (owns Ts a vss)))) ((contract_of 𝓛 S c).pre y) → Callee 𝓛 C f h
+      → ent 𝓤 (sep 𝓤 (alive 𝓛 S.signature y.0.0 y.0.1) (sep 𝓤 (sem 𝓛 ((N.the_row).own h (registers_val h ∷ []))) (sem 𝓛 (owns Ts a vss)))) ((contract_of 𝓛 S c).pre y) → Callee 𝓛 C f h
   calling S c met y φ told Ts cs a vss pays =
       record { ended = S; clauses = c; met = met; at = y; φ = φ; told = told; others = owns Ts a vss; twice = twices 𝓛 Ts cs a vss; pays = pays }
 
@@ -171,12 +171,12 @@ module _ {M : Type 1} {𝓤 : Ura M} {𝓛 : Logic 𝓤} {K : Type 0} {Γ : List
 
   module _ {C : Calls 𝓤 H} {Λ : Loops 𝓤 H} {Q : Post 𝓤 H} {f : Name} {h : Registers} {xs : List Operand} {d : Place} {rest : Code} where
     asks : K → FmC 𝓤 H 𝓛.laws C → (g : Callee 𝓛 C f h) → Opds K 𝓛 (raw (Asked g) ∷ Γ) E xs ((contract_of 𝓛 g.ended g.clauses).args g.at)
-        → ((v : Val) (r : (Row g).Denot) → g.φ r → Is (Row g) r (v ∷ []) → Seq K 𝓛 (‵ ((Row g).own_val r (v ∷ [])) ∷ raw (Tokens g) ∷ Γ) (lands C Λ E d v rest Q))
+        → ((v : Val) (r : (Row g).Denot) → g.φ r → Is (Row g) r (v ∷ []) → Seq K 𝓛 (‵ ((Row g).own r (v ∷ [])) ∷ raw (Tokens g) ∷ Γ) (lands C Λ E d v rest Q))
         → Seq K 𝓛 (raw (Asked g) ∷ Γ) (runs C Λ E (seq (call f xs d) rest) Q)
     asks t fm g os k =
         let said : (Row g).Denot → SProp 𝓤 = λ r. ensured 𝓛 g.ended g.clauses g.at.0.0 g.at.0.3 g.at.1 r in
         calls_at t fm (contract_of 𝓛 g.ended g.clauses) g.met g.at os (λ v.
-        use1 𝓛 (later (any (λ (r : (Row g).Denot). (raw (Tokens g) ⊛ ‵ ((Row g).own_val r (v ∷ []))) ⊛ raw (said r)))) (id⊢ 𝓤 _) $ await t tt $ pick t (λ r.
+        use1 𝓛 (later (any (λ (r : (Row g).Denot). (raw (Tokens g) ⊛ ‵ ((Row g).own r (v ∷ []))) ⊛ raw (said r)))) (id⊢ 𝓤 _) $ await t tt $ pick t (λ r.
         split t $ move t (1 ∷ []) $ use1 𝓛 (raw (fact 𝓤 (g.φ r))) (ex_e 𝓤 _ (λ ws. via 𝓤 _ (snd∗ 𝓤 (sem 𝓛 (lasts g.ended g.at.0.0 g.at.0.3 ws)) _) (g.told r ws))) $ heard t (g.φ r) (λ e.
         split t $ move t (1 ∷ []) $ peeks t (Row g) (Is (Row g)) (shows 𝓛 (Row g)) r (v ∷ []) (λ is. k v r e is))))
 
@@ -281,7 +281,7 @@ module _ {M : Type 1} {𝓤 : Ura M} {𝓛 : Logic 𝓤} {K : Type 0} {Δ : List
       → Opds K 𝓛 (raw (Asked g) ∷ ‵ g.others ∷ ‵ (flft κ q) ∷ ‵ (fshr_bor κ (λ s. part_at T.the_row s h b o))
       ∷ ‵ (fat full_share N'.mir lᵢ 0 (registers_val h.registers)) ∷ ‵ (fat full_share π l₁ 0 (vptr b o)) ∷ ‵ (froom ρ l₀ 0) ∷ Δ) E xs ((contract_of 𝓛 g.ended g.clauses).args g.at)
       → ((v : Val) (r : (Row g).Denot) → g.φ r
-      → Seq K 𝓛 (‵ (fshr_bor κ (λ s. part_at T.the_row s h b o)) ∷ ‵ (flft κ q) ∷ raw (Tokens g) ∷ ‵ g.others ∷ ‵ ((Row g).own_val r (v ∷ []))
+      → Seq K 𝓛 (‵ (fshr_bor κ (λ s. part_at T.the_row s h b o)) ∷ ‵ (flft κ q) ∷ raw (Tokens g) ∷ ‵ g.others ∷ ‵ ((Row g).own r (v ∷ []))
       ∷ ‵ (fat full_share N'.mir lᵢ 0 (registers_val h.registers)) ∷ ‵ (fat full_share π l₁ 0 (vptr b o)) ∷ ‵ (fat full_share ρ l₀ 0 v) ∷ Δ) (runs C Λ E rest Q))
       → Seq K 𝓛 (‵ (fshr_bor κ (λ s. part_at T.the_row s h b o)) ∷ ‵ (flft κ q) ∷ raw (Tokens g) ∷ ‵ g.others
       ∷ ‵ (froom N'.mir lᵢ 0) ∷ ‵ (fat full_share π l₁ 0 (vptr b o)) ∷ ‵ (froom ρ l₀ 0) ∷ Δ)
@@ -440,7 +440,7 @@ module _ {M : Type 1} {𝓤 : Ura M} (𝓛 : Logic 𝓤) {C : Calls 𝓤 𝓛.H}
       → e.body ≡ copied_out i (seq (call f (copy (place i []) ∷ copies_from 2 ps) (place 0 [])) return) → T (has_ty π (vptr b o)) × WT (vptr b o)
       → ((l₀ l₁ lᵢ : ℕ) (bs : Blocks ps) → Spots 𝓤 H ((ρ, l₀) ∷ (π, l₁) ∷ env_of 𝓤 H ps bs ((N'.mir, lᵢ) ∷ [])) 2 ps bs × (spot_of 𝓤 H ((ρ, l₀) ∷ (π, l₁) ∷ env_of 𝓤 H ps bs ((N'.mir, lᵢ) ∷ [])) i ≡ (N'.mir, lᵢ, 0)))
       → ((r : (Row g).Denot) (v : Val) → Is (Row g) r (v ∷ []) → T (has_ty ρ v) × WT v)
-      → (Kf : Val → SProp 𝓤) (ψ : (Row g).Denot → Type 0) → ((r : (Row g).Denot) (v : Val) → ent 𝓤 (sep 𝓤 (sep 𝓤 (sep 𝓤 (A.lft κ q) (Tokens g)) (sep 𝓤 (sem 𝓛 (shown_at κ γ b o g.others h)) (sem 𝓛 ((Row g).own_val r (v ∷ []))))) (fact 𝓤 (ψ r))) (Kf v))
+      → (Kf : Val → SProp 𝓤) (ψ : (Row g).Denot → Type 0) → ((r : (Row g).Denot) (v : Val) → ent 𝓤 (sep 𝓤 (sep 𝓤 (sep 𝓤 (A.lft κ q) (Tokens g)) (sep 𝓤 (sem 𝓛 (shown_at κ γ b o g.others h)) (sem 𝓛 ((Row g).own r (v ∷ []))))) (fact 𝓤 (ψ r))) (Kf v))
       → ((r : (Row g).Denot) → g.φ r → ψ r)
       → ent 𝓤 (sep 𝓤 (sep 𝓤 (A.lft κ q) (Tokens g)) (sem 𝓛 (shown_at κ γ b o g.others h))) (WpFn 𝓤 H C Λ e (vptr b o ∷ vals_of ps) Kf)
   shown-walk i ls body ptr at answer Kf ψ ends keeps =

@@ -130,7 +130,7 @@ module _ {M : Type 1} {𝓤 : Ura M} (𝓛 : Logic 𝓤) (𝓜 : Model 𝓤 𝓛
         (u8 ∷ []) (uint_copy 𝓛 w8, tt) a.1 vss (alone 𝓤 _))
         ((ty_int w8, vint w8 n) ∷ []) ((tt, record { fits = are.1.0.1 }), tt) refl e 4 3 (itself 𝓛 3) ls body (tt, tt)
         (λ l₀ l₁ lᵢ lⱼ bs. ((refl, tt), refl, refl))
-        (λ r. unit.own_val tt (vunit ∷ [])) (λ r v is. Nothing-Makes 𝓛 tt (vunit ∷ []) refl) _ _
+        (λ r. unit.own tt (vunit ∷ [])) (λ r v is. Nothing-Makes 𝓛 tt (vunit ∷ []) refl) _ _
         (λ r. ends_at 𝓛 setting_ended stayed setting_clauses ((κs, qs, bounds, a, (vptr a.0.ptr.0 a.0.ptr.1 ∷ [], vss)), x) vunit tt (with_registers h r, (tt, tt)) (tt, (tt, tt))) (λ r e. ap (with_registers h) e)))
       where
         stayed : Stays setting_ended.signature.params setting_ended.kept
@@ -162,7 +162,7 @@ module _ {M : Type 1} {𝓤 : Ura M} (𝓛 : Logic 𝓤) (𝓜 : Model 𝓤 𝓛
         (calling 𝓛 remade_ended remade_clauses known ((tt, tt, tt, (h.registers, tt), (registers_val h.registers ∷ [], tt)), tt) (λ r. r ≡ f h.registers) (λ r ws. id⊢ 𝓤 _) [] tt tt tt (alone 𝓤 _))
         [] tt refl e 3 2 (itself 𝓛 2) ls body (tt, tt)
         (λ l₀ l₁ lᵢ lⱼ bs. (tt, refl, refl))
-        (λ r. unit.own_val tt (vunit ∷ [])) (λ r v is. Nothing-Makes 𝓛 tt (vunit ∷ []) refl) _ _
+        (λ r. unit.own tt (vunit ∷ [])) (λ r v is. Nothing-Makes 𝓛 tt (vunit ∷ []) refl) _ _
         (λ r. ends_at 𝓛 remaking_ended stayed remaking_clauses ((κs, qs, bounds, a, (vptr a.0.ptr.0 a.0.ptr.1 ∷ [], tt)), x) vunit tt (with_registers h r, tt) (tt, tt)) (λ r e. ap (with_registers h) e)))
       where
         stayed : Stays remaking_ended.signature.params remaking_ended.kept

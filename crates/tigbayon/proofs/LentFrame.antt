@@ -267,7 +267,7 @@ module _ {M : Type 1} {𝓤 : Ura M} (𝓛 : Logic 𝓤) (κs : Lfts 9) (o : Den
           long : (x : Bor Bank) → Was x → length x.now.list ≡ 4096
           long x was = (list_of x.now was).1.0.1
 
-          owns-registers : (x : Bor Bank) → Was x → {Γ : List (Item 𝓤)} {P : SProp 𝓤} → Step Go 𝓛 (‵ ((N.the_row).own_val x.now.registers (held_vals x)) ∷ Γ) (prop P) Γ (prop P)
+          owns-registers : (x : Bor Bank) → Was x → {Γ : List (Item 𝓤)} {P : SProp 𝓤} → Step Go 𝓛 (‵ ((N.the_row).own x.now.registers (held_vals x)) ∷ Γ) (prop P) Γ (prop P)
           owns-registers x was = owned ! N.the_row (Is N.the_row) (LL.makes N.the_type N'.the_plain 𝓛) x.now.registers _ (registers-of x.now was)
 
       -- the tokens come back, and what says the last lists
@@ -276,7 +276,7 @@ module _ {M : Type 1} {𝓤 : Ura M} (𝓛 : Logic 𝓤) (κs : Lfts 9) (o : Den
           → Seq Go 𝓛 (raw Asked ∷ Γ) (runs C Λ E (seq (call g xs d) rest) Q)
       asks os k =
           calls_at ! fm (contract_of 𝓛 lent_ended (lent_clauses 𝓤 f)) known at os (λ v.
-          use1 𝓛 (later (any (λ (r : Framed). (Tokens ⊛ ‵ ((R.the_row).own_val r (v ∷ []))) ⊛ raw (ensured 𝓛 lent_ended (lent_clauses 𝓤 f) lfts args tt r)))) (id⊢ 𝓤 _) $ await ! tt $ pick ! (λ r. split ! $ move ! (1 ∷ []) $
+          use1 𝓛 (later (any (λ (r : Framed). (Tokens ⊛ ‵ ((R.the_row).own r (v ∷ []))) ⊛ raw (ensured 𝓛 lent_ended (lent_clauses 𝓤 f) lfts args tt r)))) (id⊢ 𝓤 _) $ await ! tt $ pick ! (λ r. split ! $ move ! (1 ∷ []) $
           use1 𝓛 (any (λ (ws : Lasts lent_ended lfts args). ‵ (lasts lent_ended lfts args ws) ⊛ raw (fact 𝓤 (Left r ws.1.1.1.1.0 ws.1.1.1.1.1.0 ws.1.1.1.1.1.1.0 ws.1.1.1.1.1.1.1.0)))) (id⊢ 𝓤 _) $
           pick ! (λ ws. split ! $ move ! (1 ∷ []) $ heard ! _ (λ said. fsplit ! $ drop ! $ fsplit ! $ drop ! $ fsplit ! $ drop ! $ fsplit ! $ drop ! $
           fsplit ! $ move ! (1 ∷ []) $ fsplit ! $ move ! (1 ∷ []) $ fsplit ! $ move ! (1 ∷ []) $ fsplit ! $ move ! (1 ∷ []) $ drop ! $
@@ -285,7 +285,7 @@ module _ {M : Type 1} {𝓤 : Ura M} (𝓛 : Logic 𝓤) (κs : Lfts 9) (o : Den
 
     lists-walk : (e : Fn) → e.locals ≡ lending_locals → e.body ≡ lending_body g → Are Others (Ises Others) o (vals_at κs o)
         → (Kf : Val → SProp 𝓤) → ((r : Framed) (l₀ l₁ l₂ l₃ : List ℕ) → ent 𝓤 (sep 𝓤 (sep 𝓤 (toks 𝓛 9 κs qs) (sep 𝓤 (sem 𝓛 (Owned (left x₀ r.registers0 l₀) (left x₁ r.registers1 l₁) (left x₂ r.registers2 l₂) (left x₃ r.registers3 l₃)))
-        (sem 𝓛 ((S.the_row).own_val r.frame (frame_val r.frame ∷ []))))) (fact 𝓤 (Left r l₀ l₁ l₂ l₃))) (Kf (frame_val r.frame)))
+        (sem 𝓛 ((S.the_row).own r.frame (frame_val r.frame ∷ []))))) (fact 𝓤 (Left r l₀ l₁ l₂ l₃))) (Kf (frame_val r.frame)))
         → ent 𝓤 (sep 𝓤 (toks 𝓛 9 κs qs) (sem 𝓛 (Owned x₀.now x₁.now x₂.now x₃.now))) (WpFn 𝓤 H C Λ e (ptr_val x₀ ∷ ptr_val x₁ ∷ ptr_val x₂ ∷ ptr_val x₃ ∷ vals_of passed) Kf)
     lists-walk e ls body are Kf ends =
         qed 𝓛 ((‵ (flft κs.0 qs.0) ⊛ ‵ (flft κs.1.0 qs.1.0) ⊛ ‵ (flft κs.1.1.0 qs.1.1.0) ⊛ ‵ (flft κs.1.1.1.0 qs.1.1.1.0) ⊛ raw Token) ∷ ‵ (Owned x₀.now x₁.now x₂.now x₃.now) ∷ []) ∵

@@ -93,7 +93,7 @@ abbrev list_at : ℕ → ℕ → GName → List ℕ → MutBor (List ℕ)
 list_at b o δ l = record { ref_ptr = (b, o + beyond); ghost_name = δ; now = l }
 
 abbrev list_own : Lft → ℕ → ℕ → GName → List ℕ → Fml
-list_own κ b o δ l = (MutRef (named 0) κ Bytes).own_val (list_at b o δ l) (vptr b (o + beyond) ∷ [])
+list_own κ b o δ l = (MutRef (named 0) κ Bytes).own (list_at b o δ l) (vptr b (o + beyond) ∷ [])
 
 abbrev list_kept : Lft → ℕ → ℕ → GName → Fml
 list_kept κ b o δ = flent κ (Body (mem Bytes) b (o + beyond) δ)
@@ -125,7 +125,7 @@ module _ {M : Type 1} {𝓤 : Ura M} {𝓛 : Logic 𝓤} {K : Type 0} where
         rewrite t 0 (λ (l : List ℕ). ‵ (fat full_share bytes_mir b (o + beyond) (bytes_val l))) (map-id h.list) refl $
         use1 𝓛 (‵ (cell_at full_share Bytes.mir (bytes_val h.list ∷ []) b (o + beyond))) (𝓛.laws.at_raw full_share bytes_mir b (o + beyond) (bytes_val h.list)) $
         owned t Bytes (Is Bytes) (Array-Makes 𝓛 u8 (uint_Makes 𝓛 w8) 4096) h.list _ (list_of h was) $ move t (1 ∷ 0 ∷ []) $ fjoin t $
-        fpack t (List Val) (λ vs. fsep (cell_at full_share Bytes.mir vs b (o + beyond)) (Bytes.own_val h.list vs)) (bytes_val h.list ∷ []) $
+        fpack t (List Val) (λ vs. fsep (cell_at full_share Bytes.mir vs b (o + beyond)) (Bytes.own h.list vs)) (bytes_val h.list ∷ []) $
         use1 𝓛 (later (any (λ (δ : GName). ‵ (list_own κ b o δ h.list) ⊛ ‵ (list_kept κ b o δ)))) (lends_ref 𝓛 Bytes (named 0) κ h.list b (o + beyond)) $ await t z $ pick t (λ δ. split t $ k δ)
 
     pub list_back : K → Soaks G → {κ : Lft} (h : Bank) → Is T.the_row h (bank_val h ∷ []) → (b o : ℕ) {δ : GName} (l : List ℕ)
@@ -177,7 +177,7 @@ Was x = Is T.the_row x.now (bank_val x.now ∷ [])
 
 -- what the reference owns at the bank k: obs, and a borrow of its cell
 abbrev pub owning : Lft → MutBor Bank → Bank → Fml
-owning κ x k = (MutRef (named 0) κ T.the_row).own_val (at_last x k) (ptr_val x ∷ [])
+owning κ x k = (MutRef (named 0) κ T.the_row).own (at_last x k) (ptr_val x ∷ [])
 
 abbrev obs : MutBor Bank → Bank → Fml
 obs x k = fobs x.name ((T.the_row).coded.code k)
@@ -333,7 +333,7 @@ module _ {M : Type 1} {𝓤 : Ura M} (𝓛 : Logic 𝓤) where
         frame ! $ owned ! N.the_row (Is N.the_row) (LL.makes N.the_type N'.the_plain 𝓛) x.now.registers _ (registers-of x.now was) $ done !
 
     list-walk : (e : Fn) → e.locals ≡ lending_locals → e.body ≡ lending_body g → Are Others (Ises Others) others vals
-        → (Kf : Val → SProp 𝓤) → ((r : Ran) (l : List ℕ) → ent 𝓤 (sep 𝓤 (sep 𝓤 (sep 𝓤 (A.lft κ q) Token) (sep 𝓤 (sem 𝓛 (fsep (owning κ x (left x r.registers l)) Owned)) (sem 𝓛 ((S.the_row).own_val r.run (taken.result r ∷ [])))))
+        → (Kf : Val → SProp 𝓤) → ((r : Ran) (l : List ℕ) → ent 𝓤 (sep 𝓤 (sep 𝓤 (sep 𝓤 (A.lft κ q) Token) (sep 𝓤 (sem 𝓛 (fsep (owning κ x (left x r.registers l)) Owned)) (sem 𝓛 ((S.the_row).own r.run (taken.result r ∷ [])))))
         (fact 𝓤 (Left r l))) (Kf (taken.result r)))
         → ent 𝓤 (sep 𝓤 (sep 𝓤 (A.lft κ q) Token) (sem 𝓛 (fsep (owning κ x x.now) Owned))) (WpFn 𝓤 H C Λ e (ptr_val x ∷ slice_val s.ref_ptr (length s.now) ∷ vint w32 n ∷ []) Kf)
     list-walk e ls body are Kf ends =
@@ -351,7 +351,7 @@ module _ {M : Type 1} {𝓤 : Ura M} (𝓛 : Logic 𝓤) where
         -- [what the call asks; what the others own; what is kept of the bank; _6 at 3; _5 at 5; _4 at 7; _3 at 9; _2 at 11; _1 at 13; _0 at 15; …]
         calls_at ! fm (contract_of 𝓛 lent_ended (lent_clauses 𝓤 f)) known (at ν δ)
         (and_then ! (load ! (from ! (stop !)) (look ! 5 refl)) (and_then ! (load ! (from ! (stop !)) (look ! 3 refl)) (and_then ! (load ! (from ! (stop !)) (look ! 11 refl)) (and_then ! (load ! (from ! (stop !)) (look ! 9 refl)) (no_more !))))) (λ v.
-        use1 𝓛 (later (any (λ (r : Ran). ((‵ (token ν) ⊛ raw Token) ⊛ ‵ ((R.the_row).own_val r (v ∷ []))) ⊛ raw (ensured 𝓛 lent_ended (lent_clauses 𝓤 f) (lfts ν) (args δ) tt r)))) (id⊢ 𝓤 _) $ await ! tt $ pick ! (λ r.
+        use1 𝓛 (later (any (λ (r : Ran). ((‵ (token ν) ⊛ raw Token) ⊛ ‵ ((R.the_row).own r (v ∷ []))) ⊛ raw (ensured 𝓛 lent_ended (lent_clauses 𝓤 f) (lfts ν) (args δ) tt r)))) (id⊢ 𝓤 _) $ await ! tt $ pick ! (λ r.
         -- what the call ensures, at some last list l
         split ! $ move ! (1 ∷ []) $ use1 𝓛 (any (λ (ws : Lasts lent_ended (lfts ν) (args δ)). ‵ (lasts lent_ended (lfts ν) (args δ) ws) ⊛ raw (fact 𝓤 (Left r ws.1.0)))) (id⊢ 𝓤 _) $ pick ! (λ ws. split ! $ move ! (1 ∷ []) $ heard ! (Left r ws.1.0) (λ said.
         fsplit ! $ drop ! $ fsplit ! $ move ! (2 ∷ []) $ split ! $ move ! (1 ∷ []) $ peeks ! R.the_row (Is R.the_row) (shows 𝓛 R.the_row) r (v ∷ []) (λ is.

@@ -13,7 +13,7 @@ ghost use Rattle.unit.specs.Operation.{cycles_of, is_kind, used_of, are_register
 // The registers of the unit: sixteen general ones, and the controls of both networks, two stages a register, the earlier one in the low half; the status byte,
 // and the byte that says which of its bits raise the interrupt line; of a run that waits, that it does (not zero), and how many bytes of its list are left.
 #[repr(C)]
-#[derive(Drop)]
+#[derive(Clone, Copy)]
 pub struct Registers {
     pub general: [u64; 16],
     pub b: [u64; 3],
@@ -59,14 +59,14 @@ fn put(general: &mut [u64; 16], number: u8, value: u64)
 
 // What one operation answers: 0 and its cycles, or the number of the refusal and a zero.
 #[repr(C)]
-#[derive(Drop)]
+#[derive(Clone, Copy)]
 pub struct Cycles {
     pub refusal: u8,
     pub cycles: u32,
 }
 
 // An operation's answer, and the registers after it.
-#[derive(Drop)]
+#[derive(Clone, Copy)]
 pub struct Operated {
     pub answer: Cycles,
     pub registers: Registers,
@@ -74,14 +74,14 @@ pub struct Operated {
 
 // What reading a general register answers: 0 and the value, or the number of the refusal and a zero.
 #[repr(C)]
-#[derive(Drop)]
+#[derive(Clone, Copy)]
 pub struct Register {
     pub refusal: u8,
     pub value: u64,
 }
 
 // What writing a general register answers, and the registers after it.
-#[derive(Drop)]
+#[derive(Clone, Copy)]
 pub struct Written {
     pub refusal: u8,
     pub registers: Registers,

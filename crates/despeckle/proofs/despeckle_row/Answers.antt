@@ -1,13 +1,12 @@
 -- `despeckle::despeckle_row` meets its contract: before turn `at`, the row's first words are filled, and the window is around the next pixel. Assumes nothing.
 use mathlib.Core.Path.{◌≡◌, ◌∙◌, ap}
-use mathlib.Core.List.{List}
-use Prim.Native.Nat.{ℕ, ◌+◌, ◌-◌, ◌*◌, ◌<◌, ◌≤◌}
+use Prim.Native.Nat.{ℕ, ◌+◌, ◌*◌, ◌<◌}
 use native.Mathlib.Omega.{arith}
 use lib.ListN.{length, length-set}
 use borrow.Author.Rules.{rules}
 use Rattle.bits.specs.Bit.{overwritten}
 use Rattle.bits.proofs.FilledLists.{fill-next}
-use Rattle.despeckle.specs.Plane.{bordered, around, new_word}
+use Rattle.despeckle.specs.Plane.{bordered, new_word}
 use Rattle.despeckle.proofs.Border.{index-lt}
 use Rattle.despeckle.proofs.Sliding.{window-lt}
 use Rattle.despeckle.proofs.Rows.{number-next, word-passed}

@@ -1,16 +1,10 @@
 -- What the loops of `despeckle::despeckle_row` keep. Assumes nothing.
-use mathlib.Core.Path.{◌≡◌, ◌∙◌, ap}
+use mathlib.Core.Path.{◌≡◌}
 use mathlib.Core.List.{List}
-use Prim.Native.Nat.{ℕ, ◌+◌, ◌-◌, ◌*◌, ◌<◌, ◌≤◌}
-use native.Mathlib.Omega.{arith}
-use lib.ListN.{length, length-set}
-use borrow.Author.Rules.{rules}
+use Prim.Native.Nat.{ℕ, ◌+◌, ◌-◌, ◌*◌, ◌≤◌}
+use lib.ListN.{length}
 use Rattle.bits.specs.Bit.{overwritten}
-use Rattle.bits.proofs.FilledLists.{fill-next}
-use Rattle.despeckle.specs.Plane.{bordered, around, new_word}
-use Rattle.despeckle.proofs.Border.{index-lt}
-use Rattle.despeckle.proofs.Sliding.{window-lt}
-use Rattle.despeckle.proofs.Rows.{number-next, word-passed}
+use Rattle.despeckle.specs.Plane.{around, new_word}
 use Rattle.despeckle.proofs.despeckle_row.Given as goal
 
 abbrev pub invariant-loop-at : goal.invariant-loop-at

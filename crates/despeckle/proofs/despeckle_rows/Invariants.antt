@@ -1,16 +1,10 @@
 -- What the loops of `despeckle::despeckle_rows` keep. Assumes nothing.
-use mathlib.Core.Path.{◌≡◌, sym, ◌∙◌, ap}
-use Prim.Native.Nat.{ℕ, ◌-◌, ◌*◌, ◌≤◌}
-use native.Mathlib.Omega.{arith}
-use native.Mathlib.Nat.{mul_comm, zero-mul}
+use mathlib.Core.Path.{◌≡◌}
+use Prim.Native.Nat.{◌-◌, ◌*◌, ◌≤◌}
 use lib.ListN.{length}
-use borrow.Author.Rules.{rules}
 use Rattle.bits.specs.Bit.{overwritten}
-use Rattle.bits.proofs.FilledLists.{fill_none}
 use Rattle.despeckle.specs.Plane.{new_word}
 use Rattle.despeckle.specs.Window.{IsTable}
-use Rattle.despeckle.proofs.Border.{row-end}
-use Rattle.despeckle.proofs.Sliding.{rule-at}
 use Rattle.despeckle.proofs.despeckle_rows.Given as goal
 
 abbrev pub invariant-loop-row : goal.invariant-loop-row

@@ -1,9 +1,8 @@
 -- `despeckle::slide_byte` meets its contract: before each turn, the columns above `place` are passed. Assumes nothing.
 use mathlib.Core.Path.{◌≡◌, ◌∙◌}
-use Prim.Native.Nat.{◌-◌, ◌/◌, ◌^◌, ◌≤◌}
+use Prim.Native.Nat.{◌-◌}
 use native.Mathlib.Omega.{arith}
 use borrow.Author.Rules.{rules}
-use Rattle.despeckle.specs.Window.{Passes}
 use Rattle.despeckle.proofs.Sliding.{passes_none, passes-one, passes_on, passes-whole}
 use Rattle.despeckle.proofs.slide_byte.Goals as goal
 
@@ -22,7 +21,7 @@ loop-place-preserved c =
     let a = c.args in
     let p = l.place - 1 in (
       search rules,
-      passes_on 8 l.place p 1 a.above a.own_val a.below (omega arith) l.invariant.0 (omega arith) l.invariant.1
+      passes_on 8 l.place p 1 a.above a.own a.below (omega arith) l.invariant.0 (omega arith) l.invariant.1
           (passes-one _ _ _ c.slide-number.ensures c.column.ensures (c.lit.ensures ∙ c.requires.0.entry l.number l.invariant.1.small)),
     )
 

@@ -1,10 +1,6 @@
 -- What the loops of `despeckle::slide_byte` keep. Assumes nothing.
-use mathlib.Core.Path.{◌≡◌, ◌∙◌}
 use Prim.Native.Nat.{◌-◌, ◌/◌, ◌^◌, ◌≤◌}
-use native.Mathlib.Omega.{arith}
-use borrow.Author.Rules.{rules}
 use Rattle.despeckle.specs.Window.{Passes}
-use Rattle.despeckle.proofs.Sliding.{passes_none, passes-one, passes_on, passes-whole}
 use Rattle.despeckle.proofs.slide_byte.Given as goal
 
 abbrev pub invariant-loop-place : goal.invariant-loop-place

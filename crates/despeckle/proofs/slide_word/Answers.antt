@@ -1,9 +1,8 @@
 -- `despeckle::slide_word` meets its contract: before each turn, the columns above `place` are passed. Assumes nothing.
 use mathlib.Core.Path.{◌≡◌}
-use Prim.Native.Nat.{◌-◌, ◌/◌, ◌%◌, ◌^◌, ◌≤◌}
+use Prim.Native.Nat.{◌-◌}
 use native.Mathlib.Omega.{arith}
 use borrow.Author.Rules.{rules}
-use Rattle.despeckle.specs.Window.{Passes}
 use Rattle.despeckle.proofs.Sliding.{passes_none, passes_on, passes-whole}
 use Rattle.despeckle.proofs.slide_word.Goals as goal
 
@@ -19,7 +18,7 @@ loop-place-preserved c =
     let a = c.args in (
       search rules,
       search rules,
-      passes_on 64 l.place (l.place - 8) 8 a.above a.own_val a.below (omega arith) l.invariant.0 (omega arith) l.invariant.2
+      passes_on 64 l.place (l.place - 8) 8 a.above a.own a.below (omega arith) l.invariant.0 (omega arith) l.invariant.2
           c.slide_byte-slid.ensures,
     )
 

@@ -15,10 +15,10 @@ refusal-requires c κs = search rules
 returns : tie.Need-returns
 returns c =
     let a = c.before.before.before.args in
-    rw (ne_eqb _ 0 c.if1.true) at (unpack-refusal-by a.size a.a a.b a.own_val a.packed.now c.before.refusal.ensures refl)
+    rw (ne_eqb _ 0 c.if1.true) at (unpack-refusal-by a.size a.a a.b a.own a.packed.now c.before.refusal.ensures refl)
 
 -- a call that 9 and 10 do not refuse is within the limits
-allowed : (c : tie.Else1) → let a = c.before.before.before.args in InLimits a.size a.a a.b a.own_val (length a.packed.now)
+allowed : (c : tie.Else1) → let a = c.before.before.before.args in InLimits a.size a.a a.b a.own (length a.packed.now)
 allowed c = within _ _ _ _ _ (sym c.before.refusal.ensures ∙ c.if1.false)
 
 fit : (c : tie.Else1) → let a = c.before.before.before.args in a.size * (a.b - a.a) ≤ 131072

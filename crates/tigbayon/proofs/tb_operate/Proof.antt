@@ -64,5 +64,5 @@ tb-operate-spec 𝓤 𝓛 𝓜 𝓡 =
     (u8 ∷ u8 ∷ u8 ∷ u8 ∷ []) (uint_copy 𝓛 w8, (uint_copy 𝓛 w8, (uint_copy 𝓛 w8, (uint_copy 𝓛 w8, tt)))) a.1 vss (alone 𝓤 _))
     ((ty_int w8, vint w8 kind) ∷ (ty_int w8, vint w8 r1) ∷ (ty_int w8, vint w8 r2) ∷ (ty_int w8, vint w8 r3) ∷ []) ((tt, record { fits = are.1.0.1 }), ((tt, record { fits = are.1.1.0.1 }), ((tt, record { fits = are.1.1.1.0.1 }), ((tt, record { fits = are.1.1.1.1.0.1 }), tt)))) refl code.function 7 6 (taken 𝓛) refl refl (tt, tt)
     (λ l₀ l₁ lᵢ lⱼ bs. ((refl, (refl, (refl, (refl, tt)))), refl, refl))
-    (λ r. (S.the_row).own_val r.answer ((taken 𝓛).result r ∷ [])) (λ r v is. LL.makes S.the_type S'.the_plain 𝓛 r.answer _ (LL.owed R.the_type R'.the_laws r (v ∷ []) is).0) _ _
+    (λ r. (S.the_row).own r.answer ((taken 𝓛).result r ∷ [])) (λ r v is. LL.makes S.the_type S'.the_plain 𝓛 r.answer _ (LL.owed R.the_type R'.the_laws r (v ∷ []) is).0) _ _
     (λ r. ends_at 𝓛 self.ended stayed owed ((κs, qs, bounds, a, (vptr a.0.ptr.0 a.0.ptr.1 ∷ [], vss)), g) ((taken 𝓛).result r) r.answer (with_registers k r.registers, (tt, (tt, (tt, (tt, tt))))) (tt, (tt, (tt, (tt, (tt, tt)))))) (λ r e. ap (λ (o : Operated). leaving o.answer (with_registers k o.registers)) e))

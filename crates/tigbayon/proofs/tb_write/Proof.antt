@@ -60,5 +60,5 @@ tb-write-spec 𝓤 𝓛 𝓜 𝓡 =
     (u8 ∷ u64 ∷ []) (uint_copy 𝓛 w8, (uint_copy 𝓛 w64, tt)) a.1 vss (alone 𝓤 _))
     ((ty_int w8, vint w8 n) ∷ (ty_int w64, vint w64 m) ∷ []) ((tt, record { fits = are.1.0.1 }), ((tt, record { fits = are.1.1.0.1 }), tt)) refl code.function 5 4 (taken 𝓛) refl refl (tt, tt)
     (λ l₀ l₁ lᵢ lⱼ bs. ((refl, (refl, tt)), refl, refl))
-    (λ r. u8.own_val r.refusal (vint w8 r.refusal ∷ [])) (λ r v is. uint_Makes 𝓛 w8 r.refusal _ (refl, (LL.owed R.the_type R'.the_laws r (v ∷ []) is).0.1)) _ _
+    (λ r. u8.own r.refusal (vint w8 r.refusal ∷ [])) (λ r v is. uint_Makes 𝓛 w8 r.refusal _ (refl, (LL.owed R.the_type R'.the_laws r (v ∷ []) is).0.1)) _ _
     (λ r. ends_at 𝓛 self.ended stayed owed ((κs, qs, bounds, a, (vptr a.0.ptr.0 a.0.ptr.1 ∷ [], vss)), g) (vint w8 r.refusal) r.refusal (with_registers k r.registers, (tt, (tt, tt))) (tt, (tt, (tt, tt)))) (λ r e. ap (λ (o : Written). leaving o.refusal (with_registers k o.registers)) e))
