@@ -7,11 +7,6 @@ use Rattle.network.proofs.TableSteps.{distance-lt}
 use borrow.Author.Rules.{rules}
 use Rattle.network.proofs.exchange.Goals as goal
 
-{- LEFT no goal array-read-distance
-array-read-distance : tie.Need-array-read-distance
-array-read-distance c = search rules
--}
-
 pub exchange_marked-requires : goal.exchange_marked-requires
 exchange_marked-requires c = distance-lt c.args.index (search rules)
 

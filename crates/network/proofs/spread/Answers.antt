@@ -12,18 +12,8 @@ use Rattle.network.proofs.spread.Goals as goal
 pub loop-at-init : goal.loop-at-init
 loop-at-init c = let l : 5 - c.args.first ≤ 5 = omega arith in (search rules, sym (spread_none (pow_pos (5 - c.args.first)) (omega (arith, pow_mono l)) (search rules)))
 
-{- LEFT no goal array-read-bits
-array-read-bits : tie.Need-array-read-bits invariant-loop decreases-loop
-array-read-bits c = search rules
--}
-
 pub overflow_shl-bits : goal.overflow_shl-bits
 overflow_shl-bits c = distance-lt (c.loop-at.at + 1) (search rules)
-
-{- LEFT no goal array-read-bits-2
-array-read-bits-2 : tie.Need-array-read-bits-2 invariant-loop decreases-loop
-array-read-bits-2 c = search rules
--}
 
 pub loop-at-preserved : goal.loop-at-preserved
 loop-at-preserved c = (search rules, spread-turn c.loop-at.at c.args.stage (search rules) c.loop-at.invariant.1)

@@ -4,11 +4,6 @@ use Rattle.network.proofs.Table.{pair-at}
 use borrow.Author.Rules.{rules}
 use Rattle.network.proofs.swaps.Goals as goal
 
-{- LEFT no goal array-read-result
-array-read-result : tie.Need-array-read-result
-array-read-result c = search rules
--}
-
 pub returns : goal.returns
 unfolding swaps_of
 returns c = let a = c.args in rw (pair-at a.index (search rules), c.spread.ensures)

@@ -1,0 +1,80 @@
+-- `frame::run_frame` meets its contract. Assumes nothing.
+use mathlib.Core.Path.{◌≡◌, sym, ◌∙◌}
+use mathlib.Core.List.{List, [], ◌∷◌}
+use Prim.Native.Nat.{◌≤◌}
+use native.Mathlib.Omega.{arith}
+use borrow.Author.Rules.{rules}
+use Rattle.unit.specs.Bank.{bank_of}
+use Rattle.frame.specs.Frame.{Brought, brought_by, frame_refusal}
+use Rattle.frame.specs.Offers.{Whole, sum_of_four}
+use Rattle.frame.proofs.Lowering.{refusal-by, frame-whole}
+use Rattle.frame.proofs.OneBudget.{frame-by, frame_refused}
+use Rattle.frame.proofs.run_frame.Goals as goal
+use Rattle.frame.proofs.run_frame.Goals.{After-refusal_of-refused, Else-refused-ne0, Start}
+
+-- what the four channels bring
+brought : Start → List Brought
+brought s =
+    let a = s.args in
+    brought_by (bank_of a.registers0 a.list0.now ∷ bank_of a.registers1 a.list1.now ∷ bank_of a.registers2 a.list2.now ∷ bank_of a.registers3 a.list3.now ∷ [])
+    (a.ops0.now ∷ a.ops1.now ∷ a.ops2.now ∷ a.ops3.now ∷ []) a.guarantees.now
+
+number : (c : After-refusal_of-refused) → let s = c.before.before.before.before.before.before.before.before.before.before.before.before.before.before in c.refusal_of-refused.result ≡ frame_refusal (brought s) s.args.cycles
+unfolding brought
+number c =
+    let m = c.before.before.before.before.before.before in
+    let a = c.args in
+    refusal-by a.registers0 a.registers1 a.registers2 a.registers3 a.list0.now a.list1.now a.list2.now a.list3.now a.ops0.now a.ops1.now a.ops2.now a.ops3.now a.guarantees.now a.cycles
+    m.marks_of-marks0.ensures m.marks_of-marks1.ensures m.marks_of-marks2.ensures m.marks_of-marks3.ensures c.lists_refusal-lists.ensures c.refusal_of-refused.ensures
+
+pub returns-then-refused-ne0 : goal.returns-then-refused-ne0
+unfolding brought
+returns-then-refused-ne0 c =
+    let r = c in
+    let s = r in
+    rw c.turned_back.ensures (frame_refused (brought s) s.args.cycles (number (goal.at.returns-then-refused-ne0 c).After-refusal_of-refused) c.if-refused-ne0.true)
+
+accepted : (c : Else-refused-ne0) → let s = c.before.before.before.before.before.before.before.before.before.before.before.before.before.before.before in frame_refusal (brought s) s.args.cycles ≡ 0
+accepted c = sym (number c.before) ∙ c.if-refused-ne0.false
+
+whole : (c : Else-refused-ne0) → let a = c.args in Whole a.ops0.now × Whole a.ops1.now × Whole a.ops2.now × Whole a.ops3.now × (sum_of_four a.guarantees.now ≤ a.cycles)
+unfolding brought
+whole c =
+    let a = c.args in
+    frame-whole a.registers0 a.registers1 a.registers2 a.registers3 a.list0.now a.list1.now a.list2.now a.list3.now a.ops0.now a.ops1.now a.ops2.now a.ops3.now a.guarantees.now a.cycles (accepted c)
+
+fit : (s : Start) → s.args.cycles ≤ 4294967295
+fit s = search rules
+
+pub budgets_of-budgets-requires : goal.budgets_of-budgets-requires
+budgets_of-budgets-requires c =
+    let w = whole (goal.at.budgets_of-budgets-requires c).Else-refused-ne0 in
+    let f = fit (goal.at.budgets_of-budgets-requires c).Start in
+    (w.0, w.1, w.2, w.3, omega (arith, w.4, f))
+
+pub run_channel-after0-requires : goal.run_channel-after0-requires
+run_channel-after0-requires c = let e = c in (e.requires.0, (whole (goal.at.run_channel-after0-requires c).Else-refused-ne0).0)
+
+pub run_channel-after1-requires : goal.run_channel-after1-requires
+run_channel-after1-requires c = let e = c in (e.requires.1, (whole (goal.at.run_channel-after1-requires c).Else-refused-ne0).1)
+
+pub run_channel-after2-requires : goal.run_channel-after2-requires
+run_channel-after2-requires c = let e = c in (e.requires.2, (whole (goal.at.run_channel-after2-requires c).Else-refused-ne0).2)
+
+pub run_channel-after3-requires : goal.run_channel-after3-requires
+run_channel-after3-requires c = let e = c in (e.requires.3, (whole (goal.at.run_channel-after3-requires c).Else-refused-ne0).3)
+
+pub returns : goal.returns
+unfolding brought
+returns c =
+    let r3 = c in
+    let r2 = r3 in
+    let r1 = r2 in
+    let r0 = r1 in
+    let b = r0 in
+    let e = b in
+    let a = e.args in
+    rw c.answered.ensures
+    (frame-by (bank_of a.registers0 a.list0.now) (bank_of a.registers1 a.list1.now) (bank_of a.registers2 a.list2.now) (bank_of a.registers3 a.list3.now)
+    a.ops0.now a.ops1.now a.ops2.now a.ops3.now a.guarantees.now a.cycles (accepted (goal.at.returns c).Else-refused-ne0) b.budgets_of-budgets.ensures
+    r0.run_channel-after0.ensures r1.run_channel-after1.ensures r2.run_channel-after2.ensures r3.run_channel-after3.ensures)

@@ -1,0 +1,14 @@
+-- What the loops of `grouping::group_pass` keep. Assumes nothing.
+use mathlib.Core.Path.{◌≡◌, refl}
+use Prim.Native.Nat.{◌-◌, ◌<◌, ◌≤◌}
+use native.Mathlib.Omega.{arith}
+use borrow.Author.Rules.{rules}
+use Rattle.bits.specs.Bit.{bit}
+use Rattle.grouping.proofs.Passing.{Passed, pass-start, cursor-le, at-below, pass-next, pass-end}
+use Rattle.grouping.proofs.group_pass.Given as goal
+
+abbrev pub invariant-loop-place : goal.invariant-loop-place
+invariant-loop-place l = (l.place ≤ l.width) × Passed l.width l.mask l.index l.from l.place l.low l.next l.into
+
+abbrev pub decreases-loop-place : goal.decreases-loop-place
+decreases-loop-place l = l.width - l.place

@@ -1,0 +1,14 @@
+-- What the loops of `grouping::take_destinations` keep. Assumes nothing.
+use Prim.Native.Nat.{◌-◌, ◌<◌, ◌≤◌}
+use native.Mathlib.Omega.{arith}
+use lib.ListN.{length}
+use borrow.Author.Rules.{rules}
+use Rattle.routing.specs.Lists.{entry}
+use Rattle.grouping.proofs.Taking.{Taken, take-start, take_next, take-end}
+use Rattle.grouping.proofs.take_destinations.Given as goal
+
+abbrev pub invariant-loop-place : goal.invariant-loop-place
+invariant-loop-place l = (l.place ≤ length l.entries) × Taken l.entries l.place l.mask l.to
+
+abbrev pub decreases-loop-place : goal.decreases-loop-place
+decreases-loop-place l = length l.entries - l.place

@@ -1,0 +1,15 @@
+-- What the loops of `planes::apart` keep. Assumes nothing.
+use mathlib.Core.Path.{◌≡◌, refl, ◌∙◌, ap}
+use Prim.Native.Nat.{ℕ, ◌*◌, ◌/◌, ◌%◌, ◌^◌, ◌≤◌}
+use native.Mathlib.Omega.{arith}
+use Rattle.network.specs.Word.{spread_of}
+use Rattle.planes.specs.Rounds.{IsHalf}
+use Rattle.planes.proofs.Widths.{width-le-8, half_le, half_pos, apart-start, narrower-half, apart-turn}
+use borrow.Author.Rules.{rules}
+use Rattle.planes.proofs.apart.Given as goal
+
+abbrev pub invariant-loop-h : goal.invariant-loop-h
+invariant-loop-h l = IsHalf l.h × (l.width ≤ 2 * l.h) × (l.bits ≡ spread_of l.h (l.word / 2 ^ (l.half * 32) % 2 ^ 32))
+
+abbrev pub decreases-loop-h : goal.decreases-loop-h
+decreases-loop-h l = l.h

@@ -1,0 +1,18 @@
+-- What the loops of `planes::pack_all` keep. Assumes nothing.
+use mathlib.Core.Path.{◌≡◌, refl, ◌∙◌, ap}
+use mathlib.Core.Bool.{false}
+use Prim.Native.Nat.{◌+◌, ◌-◌, ◌*◌, ◌≤◌}
+use native.Mathlib.Omega.{arith}
+use lib.ListN.{drop}
+use Rattle.planes.specs.Steps.{last_eight}
+use Rattle.planes.specs.Rounds.{fill_steps, rounds}
+use Rattle.planes.proofs.StepLists.{listed, rounds-turn, rounds-end}
+use borrow.Author.Rules.{rules}
+use Rattle.planes.proofs.pack_all.Given as goal
+
+abbrev pub invariant-loop-round : goal.invariant-loop-round
+invariant-loop-round l =
+    (l.round ≤ 3) × (fill_steps false (8 + 8 * l.round) (listed (drop l.round rounds)) l.filled ≡ fill_steps false 8 (listed rounds) l.initial.filled)
+
+abbrev pub decreases-loop-round : goal.decreases-loop-round
+decreases-loop-round l = 3 - l.round

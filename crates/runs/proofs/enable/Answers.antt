@@ -1,0 +1,6 @@
+-- `runs::enable` meets its contract. Assumes nothing.
+use mathlib.Core.Path.{refl}
+use Rattle.runs.proofs.enable.Goals as goal
+
+pub returns : goal.returns
+returns c = refl

@@ -1,0 +1,6 @@
+-- `runs::turned_back` meets its contract. Assumes nothing.
+use borrow.Author.Rules.{rules}
+use Rattle.runs.proofs.turned_back.Goals as goal
+
+pub returns : goal.returns
+returns c = rw c.status_after.ensures

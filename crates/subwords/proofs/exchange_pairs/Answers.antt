@@ -1,0 +1,9 @@
+-- `subwords::exchange_pairs` meets its contract. Assumes nothing.
+use mathlib.Core.Path.{◌∙◌}
+use Rattle.subwords.proofs.Sizes.{answers-same}
+use Rattle.subwords.proofs.Words.{halves-exchange}
+use borrow.Author.Rules.{rules}
+use Rattle.subwords.proofs.exchange_pairs.Goals as goal
+
+pub returns : goal.returns
+returns c = let a = c.args in c.answer_halves.ensures ∙ answers-same a.size (λ h. halves-exchange a.size h a.word)

@@ -1,0 +1,12 @@
+-- `tiles::turn_right` meets its contract. Assumes nothing.
+use mathlib.Core.Path.{sym, ◌∙◌, ap}
+use Rattle.tiles.specs.Tile.{rows_rule, moved}
+use Rattle.tiles.proofs.Mirrors.{rows-mirrored}
+use Rattle.tiles.proofs.Theorems.{right_is}
+use borrow.Author.Rules.{rules}
+use Rattle.tiles.proofs.turn_right.Goals as goal
+
+pub returns : goal.returns
+returns c =
+    let t = c in
+    c.mirrored.ensures ∙ rows-mirrored t.transpose.result ∙ ap (moved rows_rule) t.transpose.ensures ∙ sym (right_is t.args.tile)

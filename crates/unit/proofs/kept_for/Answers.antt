@@ -1,0 +1,6 @@
+-- `unit::kept_for` meets its contract. Assumes nothing.
+use borrow.Author.Rules.{rules}
+use Rattle.unit.proofs.kept_for.Goals as goal
+
+pub returns : goal.returns
+returns c = cc
