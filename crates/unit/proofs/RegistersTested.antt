@@ -1,7 +1,7 @@
 -- The code's test of the register numbers in use: comparisons of the kind, and no table. Assumes nothing.
 use mathlib.Core.Path.{◌≡◌, refl, ◌∙◌}
 use mathlib.Core.Bool.{Bool, true, false, not, ◌&&◌, ◌||◌}
-use mathlib.Core.List.{List, [], ◌∷◌}
+use mathlib.Core.List.{List, []}
 use Prim.Native.Nat.{ℕ, ◌%◌}
 use lib.Dec.{eqb, leb}
 use Rattle.unit.specs.Operation.{table_entry, is_kind, load_uses, uses, used_of, are_registers}

@@ -1,12 +1,11 @@
 -- `alone::agreed` meets its contract. Assumes nothing.
-use mathlib.Core.Path.{◌≡◌, refl, ◌∙◌}
+use mathlib.Core.Path.{refl, ◌∙◌}
 use mathlib.Core.Bool.{true}
-use Prim.Native.Nat.{◌-◌, ◌^◌, ◌≤◌}
+use Prim.Native.Nat.{◌^◌}
 use native.Mathlib.Omega.{arith}
-use lib.Dec.{eqb}
-use Rattle.network.proofs.Filling.{filled, fill-turn, fill_end}
+use Rattle.network.proofs.Filling.{fill-turn, fill_end}
 use Rattle.routing.specs.Alone.{every_below}
-use Rattle.alone.specs.Asked.{unasked, both, stage_words}
+use Rattle.alone.specs.Asked.{unasked, stage_words}
 use Rattle.alone.proofs.AskedWords.{length-stages, stage-word}
 use Rattle.alone.proofs.AgreeFits.{met-turn, met-none, met_all}
 use borrow.Author.Rules.{rules}

@@ -1,15 +1,11 @@
 -- What the loops of `alone::agreed` keep. Assumes nothing.
-use mathlib.Core.Path.{◌≡◌, refl, ◌∙◌}
+use mathlib.Core.Path.{◌≡◌}
 use mathlib.Core.Bool.{true}
 use Prim.Native.Nat.{◌-◌, ◌^◌, ◌≤◌}
-use native.Mathlib.Omega.{arith}
 use lib.Dec.{eqb}
-use Rattle.network.proofs.Filling.{filled, fill-turn, fill_end}
+use Rattle.network.proofs.Filling.{filled}
 use Rattle.routing.specs.Alone.{every_below}
 use Rattle.alone.specs.Asked.{unasked, both, stage_words}
-use Rattle.alone.proofs.AskedWords.{length-stages, stage-word}
-use Rattle.alone.proofs.AgreeFits.{met-turn, met-none, met_all}
-use borrow.Author.Rules.{rules}
 use Rattle.alone.proofs.agreed.Given as goal
 
 abbrev pub invariant-loop-at : goal.invariant-loop-at

@@ -1,13 +1,9 @@
 -- What the loops of `alone::asked_of` keep. Assumes nothing.
-use mathlib.Core.Path.{◌≡◌, ◌∙◌, ap}
-use mathlib.Core.Bool.{Bool, true, false}
-use Prim.Native.Nat.{ℕ, ◌-◌, ◌/◌, ◌^◌, ◌≤◌, ◌<◌}
-use native.Mathlib.Omega.{arith}
-use lib.Pow.{pow_mono}
+use mathlib.Core.Path.{◌≡◌}
+use mathlib.Core.Bool.{true, false}
+use Prim.Native.Nat.{◌-◌, ◌/◌, ◌^◌, ◌≤◌}
 use Rattle.routing.specs.Lists.{word_of}
-use Rattle.alone.specs.Asked.{unasked, asked_word, Within}
-use Rattle.alone.proofs.OneRoute.{none-asked, stage-turn}
-use borrow.Author.Rules.{rules}
+use Rattle.alone.specs.Asked.{unasked}
 use Rattle.alone.proofs.asked_of.Given as goal
 
 abbrev pub invariant-loop-at : goal.invariant-loop-at

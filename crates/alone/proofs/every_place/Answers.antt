@@ -1,9 +1,6 @@
 -- `alone::every_place` meets its contract. Assumes nothing.
-use mathlib.Core.Path.{◌≡◌, refl}
-use Prim.Native.Nat.{ℕ, ◌-◌, ◌≤◌, ◌<◌}
+use mathlib.Core.Path.{refl}
 use native.Mathlib.Omega.{arith}
-use lib.ListN.{length}
-use Rattle.routing.specs.Lists.{entry}
 use Rattle.alone.proofs.OneRoute.{place-turn}
 use borrow.Author.Rules.{rules}
 use Rattle.alone.proofs.every_place.Goals as goal

@@ -1,11 +1,8 @@
 -- What the loops of `alone::every_place` keep. Assumes nothing.
-use mathlib.Core.Path.{◌≡◌, refl}
+use mathlib.Core.Path.{◌≡◌}
 use Prim.Native.Nat.{ℕ, ◌-◌, ◌≤◌, ◌<◌}
-use native.Mathlib.Omega.{arith}
 use lib.ListN.{length}
 use Rattle.routing.specs.Lists.{entry}
-use Rattle.alone.proofs.OneRoute.{place-turn}
-use borrow.Author.Rules.{rules}
 use Rattle.alone.proofs.every_place.Given as goal
 
 abbrev pub invariant-loop-at : goal.invariant-loop-at

@@ -1,6 +1,5 @@
 -- `alone::with_route` meets its contract. Assumes nothing.
 use Rattle.alone.proofs.OneRoute.{route-passes, route-swaps}
-use borrow.Author.Rules.{rules}
 use Rattle.alone.proofs.with_route.Goals as goal
 
 pub returns-then-place-source-eq0 : goal.returns-then-place-source-eq0

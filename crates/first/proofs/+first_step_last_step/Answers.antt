@@ -1,8 +1,8 @@
 -- `first::first_step` and `first::last_step` meet their contracts: the unset switches of the first stage fall. Assumes nothing.
-use Prim.Native.Nat.{ℕ, suc, ◌*◌, ◌<◌}
+use Prim.Native.Nat.{suc}
 use native.Mathlib.Omega.{arith}
 use Rattle.routing.proofs.Level.{other-small}
-use Rattle.first.proofs.Walking.{unset_in, last_bit, last-place, last-kept, last-closed, last-first, last-count, first-kept, first-last, first-falls, stepped-after}
+use Rattle.first.proofs.Walking.{last_bit, last-place, last-kept, last-closed, last-first, last-count, first-kept, first-last, first-falls, stepped-after}
 use Rattle.first.proofs.+first_step_last_step.Goals as goal
 
 pub first_step-mark_first-requires : goal.first_step-mark_first-requires

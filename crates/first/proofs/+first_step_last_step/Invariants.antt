@@ -1,8 +1,6 @@
 -- What falls at each call of the cycle. Assumes nothing.
-use Prim.Native.Nat.{ℕ, suc, ◌*◌, ◌<◌}
-use native.Mathlib.Omega.{arith}
-use Rattle.routing.proofs.Level.{other-small}
-use Rattle.first.proofs.Walking.{unset_in, last_bit, last-place, last-kept, last-closed, last-first, last-count, first-kept, first-last, first-falls, stepped-after}
+use Prim.Native.Nat.{suc, ◌*◌}
+use Rattle.first.proofs.Walking.{unset_in}
 use Rattle.first.proofs.+first_step_last_step.Given as goal
 
 abbrev pub decreases-first_step : goal.decreases-first_step

@@ -1,8 +1,7 @@
 -- `first::route` meets its contract: the exponent of the outer stages falls. Assumes nothing.
 use mathlib.Core.Path.{◌≡◌}
-use Prim.Native.Nat.{ℕ, suc, ◌+◌, ◌-◌, ◌^◌, ◌<◌}
+use Prim.Native.Nat.{suc, ◌+◌, ◌-◌, ◌^◌}
 use native.Mathlib.Omega.{arith}
-use borrow.Author.Rules.{rules}
 use Rattle.first.proofs.BlockHalves.{route-last, lower-routable, upper-routable, route-halves}
 use Rattle.first.proofs.+route.Goals as goal
 

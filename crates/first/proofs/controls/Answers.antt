@@ -5,7 +5,6 @@ use native.Mathlib.Omega.{arith}
 use Rattle.network.specs.Calls.{six}
 use Rattle.routing.specs.Lists.{Words}
 use Rattle.first.proofs.Finish.{no-butterfly, no-inverse, entries_fit, entries-permute, all-routable, routed-first}
-use borrow.Author.Rules.{rules}
 use Rattle.first.proofs.controls.Goals as goal
 
 pub returns-then-log-eq0 : goal.returns-then-log-eq0

@@ -7,7 +7,6 @@ use native.Mathlib.Omega.{arith}
 use lib.ListN.{get_or}
 use Rattle.routing.specs.Place.{weight}
 use Rattle.first.specs.Blocks.{place_in}
-use borrow.Author.Rules.{rules}
 use Rattle.first.proofs.half_entry.Goals as goal
 
 picked : (xs : List ℕ) (b q e : ℕ) (upper : Bool) → cond upper (get_or xs (2 * b + q + 2 ^ e) 0) (get_or xs (2 * b + q) 0) ≡ place_in xs b (weight upper e + q)

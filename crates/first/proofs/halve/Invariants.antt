@@ -1,10 +1,7 @@
 -- What the loops of `first::halve` keep. Assumes nothing.
-use mathlib.Core.Path.{◌≡◌, subst}
-use Prim.Native.Nat.{ℕ, ◌-◌, ◌^◌, ◌≤◌}
-use native.Mathlib.Omega.{arith}
-use borrow.Author.Rules.{rules}
-use Rattle.first.specs.Marks.{mark_swaps, swaps_from}
-use Rattle.first.proofs.Halving.{HalvedBelow, halve-start, halve-turn, halve-end}
+use Prim.Native.Nat.{◌-◌, ◌≤◌}
+use Rattle.first.specs.Marks.{swaps_from}
+use Rattle.first.proofs.Halving.{HalvedBelow}
 use Rattle.first.proofs.halve.Given as goal
 
 abbrev pub invariant-loop-q : goal.invariant-loop-q

@@ -2,7 +2,6 @@
 use mathlib.Core.Path.{refl, ap, ◌∙◌}
 use Prim.Native.Nat.{ℕ, ◌^◌}
 use lib.Dec.{leb}
-use borrow.Author.Rules.{rules}
 use Rattle.routing.specs.Marks.{set}
 use Rattle.routing.specs.Stages.{Butterfly}
 use Rattle.first.proofs.Storing.{switch-marked}

@@ -3,7 +3,6 @@ use mathlib.Core.Path.{refl, ap, ◌∙◌}
 use mathlib.Core.Bool.{not}
 use Prim.Native.Nat.{ℕ, ◌^◌}
 use lib.Dec.{leb, ltb}
-use borrow.Author.Rules.{rules}
 use Rattle.routing.specs.Marks.{set}
 use Rattle.routing.specs.Stages.{Inverse}
 use Rattle.first.proofs.Storing.{switch-marked, below-not}

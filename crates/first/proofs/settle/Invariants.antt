@@ -1,11 +1,6 @@
 -- What the loops of `first::settle` keep. Assumes nothing.
-use mathlib.Core.Path.{◌≡◌, refl, subst}
-use Prim.Native.Nat.{ℕ, suc, ◌-◌, ◌^◌, ◌≤◌}
-use native.Mathlib.Omega.{arith}
-use native.Mathlib.Numerals.{add-one}
-use borrow.Author.Rules.{rules}
+use Prim.Native.Nat.{◌-◌, ◌≤◌}
 use Rattle.first.specs.Blocks.{Stepped}
-use Rattle.first.proofs.Walking.{settle-start, stepped-after}
 use Rattle.first.proofs.settle.Given as goal
 
 abbrev pub invariant-loop-s : goal.invariant-loop-s

@@ -4,7 +4,6 @@ use Prim.Native.Nat.{ℕ, ◌%◌}
 use native.Mathlib.Omega.{arith}
 use native.Mathlib.Nat.{mod-lt}
 use lib.Pow.{pow_pos}
-use borrow.Author.Rules.{rules}
 use Rattle.first.proofs.switch_of.Goals as goal
 
 pub nonzero_rem-result : goal.nonzero_rem-result

@@ -1,9 +1,7 @@
 -- `first::take_entries` meets its contract. Assumes nothing.
-use Prim.Native.Nat.{◌-◌}
 use native.Mathlib.Omega.{arith}
-use lib.ListN.{length}
 use borrow.Author.Rules.{rules}
-use Rattle.first.proofs.Entries.{PlacedBelow, entry-small, place-turn, place_end}
+use Rattle.first.proofs.Entries.{entry-small, place-turn, place_end}
 use Rattle.first.proofs.take_entries.Goals as goal
 
 pub loop-p-init : goal.loop-p-init

@@ -1,9 +1,7 @@
 -- What the loops of `first::take_entries` keep. Assumes nothing.
 use Prim.Native.Nat.{◌-◌}
-use native.Mathlib.Omega.{arith}
 use lib.ListN.{length}
-use borrow.Author.Rules.{rules}
-use Rattle.first.proofs.Entries.{PlacedBelow, entry-small, place-turn, place_end}
+use Rattle.first.proofs.Entries.{PlacedBelow}
 use Rattle.first.proofs.take_entries.Given as goal
 
 abbrev pub invariant-loop-p : goal.invariant-loop-p

@@ -1,7 +1,6 @@
 -- `first::visit` meets its contract. Assumes nothing.
 use Prim.Native.Nat.{suc}
 use Rattle.first.proofs.Walking.{visit-skip, visit-last, visit-kept, stepped-after}
-use borrow.Author.Rules.{rules}
 use Rattle.first.proofs.visit.Goals as goal
 
 pub returns-then-marks-e-ne-UNSET : goal.returns-then-marks-e-ne-UNSET

@@ -1,11 +1,8 @@
 -- What the loops of `first::word` keep. Assumes nothing.
-use mathlib.Core.Path.{◌≡◌, refl, ap, ◌∙◌}
-use Prim.Native.Nat.{ℕ, ◌-◌, ◌≤◌}
-use native.Mathlib.Omega.{arith}
-use borrow.Author.Rules.{rules}
+use mathlib.Core.Path.{◌≡◌}
+use Prim.Native.Nat.{◌-◌, ◌≤◌}
 use Rattle.routing.specs.Lists.{word_of}
 use Rattle.first.specs.Marks.{swaps_from}
-use Rattle.first.proofs.MarkWords.{word-turn, word_fits, word-narrow}
 use Rattle.first.proofs.word.Given as goal
 
 abbrev pub invariant-loop-s : goal.invariant-loop-s

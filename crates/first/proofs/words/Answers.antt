@@ -1,9 +1,8 @@
 -- `first::words` meets its contract. Assumes nothing.
-use mathlib.Core.Path.{◌≡◌, ◌∙◌}
-use Prim.Native.Nat.{◌-◌, ◌≤◌}
+use mathlib.Core.Path.{◌∙◌}
 use native.Mathlib.Omega.{arith}
 use borrow.Author.Rules.{rules}
-use Rattle.network.proofs.Filling.{filled, fill-turn, fill_end}
+use Rattle.network.proofs.Filling.{fill-turn, fill_end}
 use Rattle.routing.specs.Lists.{words_of}
 use Rattle.first.specs.Marks.{controls_in}
 use Rattle.first.proofs.MarkWords.{butterfly-count, inverse-count, butterfly-word, inverse-word}

@@ -1,12 +1,9 @@
 -- What the loops of `first::words` keep. Assumes nothing.
-use mathlib.Core.Path.{◌≡◌, ◌∙◌}
+use mathlib.Core.Path.{◌≡◌}
 use Prim.Native.Nat.{◌-◌, ◌≤◌}
-use native.Mathlib.Omega.{arith}
-use borrow.Author.Rules.{rules}
-use Rattle.network.proofs.Filling.{filled, fill-turn, fill_end}
+use Rattle.network.proofs.Filling.{filled}
 use Rattle.routing.specs.Lists.{words_of}
 use Rattle.first.specs.Marks.{controls_in}
-use Rattle.first.proofs.MarkWords.{butterfly-count, inverse-count, butterfly-word, inverse-word}
 use Rattle.first.proofs.words.Given as goal
 
 abbrev pub invariant-loop-i : goal.invariant-loop-i

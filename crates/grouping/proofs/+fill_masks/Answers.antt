@@ -1,6 +1,6 @@
 -- `grouping::fill_masks` meets its contract: the steps left fall. Assumes nothing.
 use mathlib.Core.Path.{◌∙◌}
-use Prim.Native.Nat.{ℕ, ◌+◌, ◌-◌, ◌<◌}
+use Prim.Native.Nat.{◌+◌, ◌<◌}
 use native.Mathlib.Omega.{arith}
 use lib.ListN.{take, length-set}
 use lib.Pow.{pow_mono}

@@ -1,10 +1,10 @@
 -- `grouping::group_pass` meets its contract. Assumes nothing.
 use mathlib.Core.Path.{◌≡◌, refl}
-use Prim.Native.Nat.{◌-◌, ◌<◌, ◌≤◌}
+use Prim.Native.Nat.{◌<◌}
 use native.Mathlib.Omega.{arith}
 use borrow.Author.Rules.{rules}
 use Rattle.bits.specs.Bit.{bit}
-use Rattle.grouping.proofs.Passing.{Passed, pass-start, cursor-le, at-below, pass-next, pass-end}
+use Rattle.grouping.proofs.Passing.{pass-start, cursor-le, at-below, pass-next, pass-end}
 use Rattle.grouping.proofs.group_pass.Goals as goal
 use Rattle.grouping.proofs.group_pass.Goals.{After-place_of-at}
 

@@ -1,10 +1,6 @@
 -- What the loops of `grouping::group_pass` keep. Assumes nothing.
-use mathlib.Core.Path.{◌≡◌, refl}
-use Prim.Native.Nat.{◌-◌, ◌<◌, ◌≤◌}
-use native.Mathlib.Omega.{arith}
-use borrow.Author.Rules.{rules}
-use Rattle.bits.specs.Bit.{bit}
-use Rattle.grouping.proofs.Passing.{Passed, pass-start, cursor-le, at-below, pass-next, pass-end}
+use Prim.Native.Nat.{◌-◌, ◌≤◌}
+use Rattle.grouping.proofs.Passing.{Passed}
 use Rattle.grouping.proofs.group_pass.Given as goal
 
 abbrev pub invariant-loop-place : goal.invariant-loop-place

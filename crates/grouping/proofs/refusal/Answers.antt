@@ -3,7 +3,6 @@ use mathlib.Core.Path.{sym, ◌∙◌}
 use Rattle.bits.specs.Refusal.{logs_to_64}
 use Rattle.bits.proofs.Refusals.{not_listed, is-listed, width-le-64}
 use Rattle.grouping.proofs.GroupAnswers.{groups-refusal-by}
-use borrow.Author.Rules.{rules}
 use Rattle.grouping.proofs.refusal.Goals as goal
 
 pub returns-then-log_to_64-eq0 : goal.returns-then-log_to_64-eq0

@@ -1,7 +1,6 @@
 -- `grouping::route_groups` meets its contract. Assumes nothing.
 use mathlib.Core.Path.{refl}
 use native.Mathlib.Omega.{arith}
-use borrow.Author.Rules.{rules}
 use Rattle.grouping.proofs.Theorems.{answers-groups}
 use Rattle.grouping.proofs.GroupAnswers.{groups-refused, entries-permute, steps-allowed, groups-filled}
 use Rattle.grouping.proofs.route_groups.Goals as goal

@@ -1,10 +1,10 @@
 -- `grouping::take_destinations` meets its contract. Assumes nothing.
-use Prim.Native.Nat.{◌-◌, ◌<◌, ◌≤◌}
+use Prim.Native.Nat.{◌<◌}
 use native.Mathlib.Omega.{arith}
 use lib.ListN.{length}
 use borrow.Author.Rules.{rules}
 use Rattle.routing.specs.Lists.{entry}
-use Rattle.grouping.proofs.Taking.{Taken, take-start, take_next, take-end}
+use Rattle.grouping.proofs.Taking.{take-start, take_next, take-end}
 use Rattle.grouping.proofs.take_destinations.Goals as goal
 use Rattle.grouping.proofs.take_destinations.Goals.{After-shared_slice_known-in-loop-place-1}
 

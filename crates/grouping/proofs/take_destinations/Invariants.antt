@@ -1,10 +1,7 @@
 -- What the loops of `grouping::take_destinations` keep. Assumes nothing.
-use Prim.Native.Nat.{◌-◌, ◌<◌, ◌≤◌}
-use native.Mathlib.Omega.{arith}
+use Prim.Native.Nat.{◌-◌, ◌≤◌}
 use lib.ListN.{length}
-use borrow.Author.Rules.{rules}
-use Rattle.routing.specs.Lists.{entry}
-use Rattle.grouping.proofs.Taking.{Taken, take-start, take_next, take-end}
+use Rattle.grouping.proofs.Taking.{Taken}
 use Rattle.grouping.proofs.take_destinations.Given as goal
 
 abbrev pub invariant-loop-place : goal.invariant-loop-place

@@ -1,8 +1,7 @@
 -- `permute::entries_refusal` meets its contract. Assumes nothing.
 use mathlib.Core.Path.{refl, sym, ◌∙◌}
-use borrow.Author.Tests.{eq-eqb, ne_eqb, not-true, not-false}
+use borrow.Author.Tests.{eq-eqb, ne_eqb}
 use Rattle.permute.proofs.PermutationAnswers.{entries-refusal-by}
-use borrow.Author.Rules.{rules}
 use Rattle.permute.proofs.entries_refusal.Goals as goal
 
 pub returns-then-entries-width : goal.returns-then-entries-width

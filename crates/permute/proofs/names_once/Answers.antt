@@ -1,11 +1,8 @@
 -- `permute::names_once` meets its contract. Assumes nothing.
 use mathlib.Core.Path.{◌≡◌, sym}
-use mathlib.Core.Bool.{true}
-use Prim.Native.Nat.{◌+◌, ◌-◌, ◌≤◌}
+use Prim.Native.Nat.{◌+◌, ◌-◌}
 use native.Mathlib.Omega.{arith}
-use lib.ListN.{length, drop}
-use Rattle.permute.specs.Permutation.{names_once}
-use Rattle.permute.proofs.Names.{Seen, entry-large, entry-repeated, entry_new, nothing_left, seen_nothing}
+use Rattle.permute.proofs.Names.{entry-large, entry-repeated, entry_new, nothing_left, seen_nothing}
 use borrow.Author.Rules.{rules}
 use Rattle.permute.proofs.names_once.Goals as goal
 

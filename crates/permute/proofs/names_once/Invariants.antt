@@ -1,12 +1,10 @@
 -- What the loops of `permute::names_once` keep. Assumes nothing.
-use mathlib.Core.Path.{◌≡◌, sym}
+use mathlib.Core.Path.{◌≡◌}
 use mathlib.Core.Bool.{true}
-use Prim.Native.Nat.{◌+◌, ◌-◌, ◌≤◌}
-use native.Mathlib.Omega.{arith}
+use Prim.Native.Nat.{◌≤◌}
 use lib.ListN.{length, drop}
 use Rattle.permute.specs.Permutation.{names_once}
-use Rattle.permute.proofs.Names.{Seen, entry-large, entry-repeated, entry_new, nothing_left, seen_nothing}
-use borrow.Author.Rules.{rules}
+use Rattle.permute.proofs.Names.{Seen}
 use Rattle.permute.proofs.names_once.Given as goal
 
 abbrev pub invariant-loop-at : goal.invariant-loop-at

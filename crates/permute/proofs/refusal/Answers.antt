@@ -2,7 +2,6 @@
 use mathlib.Core.Path.{refl, sym, ◌∙◌}
 use Rattle.bits.proofs.Refusals.{not-width, is-width, width-le}
 use Rattle.permute.proofs.PermutationAnswers.{route-refusal-by}
-use borrow.Author.Rules.{rules}
 use Rattle.permute.proofs.refusal.Goals as goal
 
 pub returns-then-log_of-eq0 : goal.returns-then-log_of-eq0

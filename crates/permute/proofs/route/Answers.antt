@@ -1,7 +1,6 @@
 -- `permute::route` meets its contract. Assumes nothing.
 use Rattle.permute.proofs.PermutationAnswers.{route-permutes}
 use Rattle.permute.proofs.FirstAnswers.{route-refused, route-done, answers-first}
-use borrow.Author.Rules.{rules}
 use Rattle.permute.proofs.route.Goals as goal
 
 pub returns-then-refused-ne0 : goal.returns-then-refused-ne0

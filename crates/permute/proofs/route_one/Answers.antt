@@ -3,7 +3,6 @@ use mathlib.Core.Path.{◌∙◌}
 use Rattle.alone.specs.Calls.{fits_alone, alone}
 use Rattle.permute.proofs.PermutationAnswers.{route-permutes}
 use Rattle.permute.proofs.AloneAnswers.{one-turned-back, one-answered, answers-alone, either-alone}
-use borrow.Author.Rules.{rules}
 use Rattle.permute.proofs.route_one.Goals as goal
 
 pub returns-then-refused-ne0 : goal.returns-then-refused-ne0

@@ -1,9 +1,8 @@
 -- `planes::apart` meets its contract. Assumes nothing.
 use mathlib.Core.Path.{◌≡◌, refl, ◌∙◌, ap}
-use Prim.Native.Nat.{ℕ, ◌*◌, ◌/◌, ◌%◌, ◌^◌, ◌≤◌}
+use Prim.Native.Nat.{ℕ, ◌*◌, ◌/◌, ◌%◌, ◌^◌}
 use native.Mathlib.Omega.{arith}
 use Rattle.network.specs.Word.{spread_of}
-use Rattle.planes.specs.Rounds.{IsHalf}
 use Rattle.planes.proofs.Widths.{width-le-8, half_le, half_pos, apart-start, narrower-half, apart-turn}
 use borrow.Author.Rules.{rules}
 use Rattle.planes.proofs.apart.Goals as goal

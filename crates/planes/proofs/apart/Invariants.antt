@@ -1,11 +1,8 @@
 -- What the loops of `planes::apart` keep. Assumes nothing.
-use mathlib.Core.Path.{◌≡◌, refl, ◌∙◌, ap}
-use Prim.Native.Nat.{ℕ, ◌*◌, ◌/◌, ◌%◌, ◌^◌, ◌≤◌}
-use native.Mathlib.Omega.{arith}
+use mathlib.Core.Path.{◌≡◌}
+use Prim.Native.Nat.{◌*◌, ◌/◌, ◌%◌, ◌^◌, ◌≤◌}
 use Rattle.network.specs.Word.{spread_of}
 use Rattle.planes.specs.Rounds.{IsHalf}
-use Rattle.planes.proofs.Widths.{width-le-8, half_le, half_pos, apart-start, narrower-half, apart-turn}
-use borrow.Author.Rules.{rules}
 use Rattle.planes.proofs.apart.Given as goal
 
 abbrev pub invariant-loop-h : goal.invariant-loop-h

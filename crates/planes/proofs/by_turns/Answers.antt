@@ -1,7 +1,6 @@
 -- `planes::by_turns` meets its contract. Assumes nothing.
 use native.Mathlib.Omega.{arith}
 use Rattle.planes.proofs.Widths.{half_le, turns-of}
-use borrow.Author.Rules.{rules}
 use Rattle.planes.proofs.by_turns.Goals as goal
 
 pub overflow_shl-result : goal.overflow_shl-result

@@ -1,6 +1,6 @@
 -- `planes::carry_round` meets its contract. Assumes nothing.
 use mathlib.Core.Path.{◌≡◌, ◌∙◌, ap}
-use Prim.Native.Nat.{ℕ, ◌+◌, ◌-◌, ◌*◌, ◌≤◌}
+use Prim.Native.Nat.{ℕ, ◌+◌, ◌*◌}
 use native.Mathlib.Omega.{arith}
 use Rattle.planes.specs.Rounds.{fill_steps, steps_from, round_steps}
 use Rattle.planes.proofs.StepLists.{step-turn, rounds-step}

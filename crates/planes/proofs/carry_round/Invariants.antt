@@ -1,10 +1,7 @@
 -- What the loops of `planes::carry_round` keep. Assumes nothing.
-use mathlib.Core.Path.{◌≡◌, ◌∙◌, ap}
-use Prim.Native.Nat.{ℕ, ◌+◌, ◌-◌, ◌*◌, ◌≤◌}
-use native.Mathlib.Omega.{arith}
+use mathlib.Core.Path.{◌≡◌}
+use Prim.Native.Nat.{◌+◌, ◌-◌, ◌*◌, ◌≤◌}
 use Rattle.planes.specs.Rounds.{fill_steps, steps_from, round_steps}
-use Rattle.planes.proofs.StepLists.{step-turn, rounds-step}
-use borrow.Author.Rules.{rules}
 use Rattle.planes.proofs.carry_round.Given as goal
 
 abbrev pub invariant-loop-turn : goal.invariant-loop-turn

@@ -5,7 +5,6 @@ use native.Mathlib.Omega.{arith}
 use Rattle.planes.specs.Rounds.{result_by, step_at}
 use Rattle.planes.proofs.Widths.{width-mirrored, width-pos}
 use Rattle.planes.proofs.StepLists.{step-parts}
-use borrow.Author.Rules.{rules}
 use Rattle.planes.proofs.carry_step.Goals as goal
 
 pub bounds-words-byte_at : goal.bounds-words-byte_at

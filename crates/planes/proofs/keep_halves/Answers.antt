@@ -1,8 +1,8 @@
 -- `planes::keep_halves` meets its contract. Assumes nothing.
 use mathlib.Core.Path.{◌≡◌, ◌∙◌, ap, ap₂}
-use Prim.Native.Nat.{ℕ, ◌-◌, ◌/◌}
+use Prim.Native.Nat.{ℕ, ◌/◌}
 use native.Mathlib.Omega.{arith}
-use Rattle.planes.specs.Rounds.{IsHalf, kept_halves, by_turns, crossed_of}
+use Rattle.planes.specs.Rounds.{kept_halves, by_turns, crossed_of}
 use Rattle.planes.proofs.KeptHalves.{keep-end}
 use Rattle.planes.proofs.Widths.{width-half, shift_le, kept-begun, wider-half, half_pos, half_le, cross-up}
 use borrow.Author.Rules.{rules}

@@ -1,11 +1,7 @@
 -- What the loops of `planes::keep_halves` keep. Assumes nothing.
-use mathlib.Core.Path.{◌≡◌, ◌∙◌, ap, ap₂}
-use Prim.Native.Nat.{ℕ, ◌-◌, ◌/◌}
-use native.Mathlib.Omega.{arith}
-use Rattle.planes.specs.Rounds.{IsHalf, kept_halves, by_turns, crossed_of}
-use Rattle.planes.proofs.KeptHalves.{keep-end}
-use Rattle.planes.proofs.Widths.{width-half, shift_le, kept-begun, wider-half, half_pos, half_le, cross-up}
-use borrow.Author.Rules.{rules}
+use mathlib.Core.Path.{◌≡◌}
+use Prim.Native.Nat.{◌-◌}
+use Rattle.planes.specs.Rounds.{IsHalf, kept_halves, by_turns}
 use Rattle.planes.proofs.keep_halves.Given as goal
 
 abbrev pub invariant-loop-h : goal.invariant-loop-h

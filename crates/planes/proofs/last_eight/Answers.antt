@@ -1,11 +1,11 @@
 -- `planes::last_eight` meets its contract. Assumes nothing.
 use mathlib.Core.Path.{◌≡◌, refl, sym, ◌∙◌, ap}
 use mathlib.Core.List.{append-nil}
-use Prim.Native.Nat.{ℕ, ◌-◌, ◌≤◌}
+use Prim.Native.Nat.{ℕ, ◌-◌}
 use native.Mathlib.Omega.{arith}
 use lib.ListN.{length, drop, length-drop}
 use lib.Seq.{take_all, get_or-drop}
-use Rattle.network.proofs.Filling.{filled_to, fill_more}
+use Rattle.network.proofs.Filling.{fill_more}
 use borrow.Author.Rules.{rules}
 use Rattle.planes.proofs.last_eight.Goals as goal
 

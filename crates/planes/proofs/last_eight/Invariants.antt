@@ -1,12 +1,8 @@
 -- What the loops of `planes::last_eight` keep. Assumes nothing.
-use mathlib.Core.Path.{◌≡◌, refl, sym, ◌∙◌, ap}
-use mathlib.Core.List.{append-nil}
-use Prim.Native.Nat.{ℕ, ◌-◌, ◌≤◌}
-use native.Mathlib.Omega.{arith}
-use lib.ListN.{length, drop, length-drop}
-use lib.Seq.{take_all, get_or-drop}
-use Rattle.network.proofs.Filling.{filled_to, fill_more}
-use borrow.Author.Rules.{rules}
+use mathlib.Core.Path.{◌≡◌}
+use Prim.Native.Nat.{◌-◌, ◌≤◌}
+use lib.ListN.{drop}
+use Rattle.network.proofs.Filling.{filled_to}
 use Rattle.planes.proofs.last_eight.Given as goal
 
 abbrev pub invariant-loop-at : goal.invariant-loop-at

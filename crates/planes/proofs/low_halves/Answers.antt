@@ -1,7 +1,6 @@
 -- `planes::low_halves` meets its contract. Assumes nothing.
 use native.Mathlib.Omega.{arith}
 use Rattle.planes.proofs.Widths.{half_le, shifted-lt, divided}
-use borrow.Author.Rules.{rules}
 use Rattle.planes.proofs.low_halves.Goals as goal
 
 pub overflow_shl-result : goal.overflow_shl-result

@@ -1,12 +1,9 @@
 -- `planes::merge_all` meets its contract. Assumes nothing.
 use mathlib.Core.Path.{◌≡◌, refl, ◌∙◌, ap}
 use mathlib.Core.Bool.{true}
-use Prim.Native.Nat.{◌+◌, ◌-◌, ◌*◌, ◌≤◌}
 use native.Mathlib.Omega.{arith}
-use lib.ListN.{drop}
 use Rattle.planes.specs.Steps.{last_eight}
-use Rattle.planes.specs.Rounds.{fill_steps, rounds}
-use Rattle.planes.proofs.StepLists.{listed, rounds-turn, rounds-end}
+use Rattle.planes.proofs.StepLists.{rounds-turn, rounds-end}
 use borrow.Author.Rules.{rules}
 use Rattle.planes.proofs.merge_all.Goals as goal
 

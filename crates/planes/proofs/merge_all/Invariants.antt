@@ -1,13 +1,10 @@
 -- What the loops of `planes::merge_all` keep. Assumes nothing.
-use mathlib.Core.Path.{◌≡◌, refl, ◌∙◌, ap}
+use mathlib.Core.Path.{◌≡◌}
 use mathlib.Core.Bool.{true}
 use Prim.Native.Nat.{◌+◌, ◌-◌, ◌*◌, ◌≤◌}
-use native.Mathlib.Omega.{arith}
 use lib.ListN.{drop}
-use Rattle.planes.specs.Steps.{last_eight}
 use Rattle.planes.specs.Rounds.{fill_steps, rounds}
-use Rattle.planes.proofs.StepLists.{listed, rounds-turn, rounds-end}
-use borrow.Author.Rules.{rules}
+use Rattle.planes.proofs.StepLists.{listed}
 use Rattle.planes.proofs.merge_all.Given as goal
 
 abbrev pub invariant-loop-round : goal.invariant-loop-round

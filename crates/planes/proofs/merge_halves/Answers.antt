@@ -1,7 +1,6 @@
 -- `planes::merge_halves` meets its contract. Assumes nothing.
 use native.Mathlib.Omega.{arith}
 use Rattle.planes.proofs.Widths.{width-le-8, merged-word}
-use borrow.Author.Rules.{rules}
 use Rattle.planes.proofs.merge_halves.Goals as goal
 
 pub overflow_shl-result : goal.overflow_shl-result

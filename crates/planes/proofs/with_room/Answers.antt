@@ -1,9 +1,8 @@
 -- `planes::with_room` meets its contract. Assumes nothing.
 use mathlib.Core.Path.{◌≡◌, refl, ◌∙◌}
-use Prim.Native.Nat.{◌-◌, ◌≤◌}
 use native.Mathlib.Omega.{arith}
 use lib.Seq.{take_all}
-use Rattle.network.proofs.Filling.{filled_to, fill_more}
+use Rattle.network.proofs.Filling.{fill_more}
 use borrow.Author.Rules.{rules}
 use Rattle.planes.proofs.with_room.Goals as goal
 

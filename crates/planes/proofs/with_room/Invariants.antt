@@ -1,10 +1,7 @@
 -- What the loops of `planes::with_room` keep. Assumes nothing.
-use mathlib.Core.Path.{◌≡◌, refl, ◌∙◌}
+use mathlib.Core.Path.{◌≡◌}
 use Prim.Native.Nat.{◌-◌, ◌≤◌}
-use native.Mathlib.Omega.{arith}
-use lib.Seq.{take_all}
-use Rattle.network.proofs.Filling.{filled_to, fill_more}
-use borrow.Author.Rules.{rules}
+use Rattle.network.proofs.Filling.{filled_to}
 use Rattle.planes.proofs.with_room.Given as goal
 
 abbrev pub invariant-loop-at : goal.invariant-loop-at

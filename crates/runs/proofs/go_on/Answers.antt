@@ -1,17 +1,16 @@
 -- `runs::go_on` meets its contract. Assumes nothing.
 use mathlib.Core.Path.{◌≡◌, refl}
 use mathlib.Core.Bool.{true, false}
-use Prim.Native.Nat.{◌+◌, ◌-◌, ◌/◌, ◌%◌, ◌<◌, ◌≤◌}
+use Prim.Native.Nat.{◌+◌, ◌/◌, ◌<◌}
 use native.Mathlib.Omega.{arith}
 use borrow.Author.Rules.{rules}
-use lib.ListN.{length, drop, replicate}
+use lib.ListN.{length, replicate}
 use Rattle.unit.specs.Operation.{operation_at}
-use Rattle.runs.specs.Run.{operations_of}
-use Rattle.unit.specs.Lent.{registers_of, Sized, KeptNetwork}
+use Rattle.unit.specs.Lent.{registers_of}
 use Rattle.runs.proofs.OperationLists.{operations-next, operations-end}
 use Rattle.unit.proofs.LentRegisters.{sized-after}
 use Rattle.unit.proofs.KeptNetworks.{kept-is}
-use Rattle.runs.proofs.Runs.{Going, going-none, going_next, going-spent, going_done}
+use Rattle.runs.proofs.Runs.{going-none, going_next, going-spent, going_done}
 use Rattle.runs.proofs.go_on.Goals as goal
 
 pub loop-at-init : goal.loop-at-init

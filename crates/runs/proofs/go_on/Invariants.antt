@@ -1,17 +1,11 @@
 -- What the loops of `runs::go_on` keep. Assumes nothing.
-use mathlib.Core.Path.{◌≡◌, refl}
+use mathlib.Core.Path.{◌≡◌}
 use mathlib.Core.Bool.{true, false}
-use Prim.Native.Nat.{◌+◌, ◌-◌, ◌/◌, ◌%◌, ◌<◌, ◌≤◌}
-use native.Mathlib.Omega.{arith}
-use borrow.Author.Rules.{rules}
-use lib.ListN.{length, drop, replicate}
-use Rattle.unit.specs.Operation.{operation_at}
+use Prim.Native.Nat.{◌-◌, ◌/◌, ◌%◌, ◌≤◌}
+use lib.ListN.{length, drop}
 use Rattle.runs.specs.Run.{operations_of}
 use Rattle.unit.specs.Lent.{registers_of, Sized, KeptNetwork}
-use Rattle.runs.proofs.OperationLists.{operations-next, operations-end}
-use Rattle.unit.proofs.LentRegisters.{sized-after}
-use Rattle.unit.proofs.KeptNetworks.{kept-is}
-use Rattle.runs.proofs.Runs.{Going, going-none, going_next, going-spent, going_done}
+use Rattle.runs.proofs.Runs.{Going}
 use Rattle.runs.proofs.go_on.Given as goal
 
 abbrev pub invariant-loop-at : goal.invariant-loop-at

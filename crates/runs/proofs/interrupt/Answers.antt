@@ -3,7 +3,6 @@ use mathlib.Core.Path.{ap, sym}
 use mathlib.Core.Bool.{Bool, cond}
 use native.Mathlib.Omega.{arith}
 use lib.Bits.{bit_and}
-use borrow.Author.Rules.{rules}
 use Rattle.runs.specs.StatusByte.{status_of, interrupt_of}
 use Rattle.runs.proofs.StatusBits.{status-lt, some-by, none-by}
 use Rattle.runs.proofs.interrupt.Goals as goal

@@ -1,13 +1,9 @@
 -- What the loops of `runs::operations_refusal` keep. Assumes nothing.
-use mathlib.Core.Path.{◌≡◌, refl, sym}
-use mathlib.Core.List.{[], ◌∷◌}
-use Prim.Native.Nat.{◌+◌, ◌-◌, ◌%◌, ◌<◌, ◌≤◌}
-use borrow.Author.Rules.{rules}
-use borrow.Author.Tests.{not-true, not-false}
+use mathlib.Core.Path.{◌≡◌}
+use Prim.Native.Nat.{◌-◌, ◌%◌, ◌≤◌}
 use lib.ListN.{length, drop}
-use Rattle.unit.specs.Operation.{operation_at}
 use Rattle.runs.specs.Run.{operations_of}
-use Rattle.runs.proofs.OperationLists.{operations-next, operations-end, Sofar, sofar-none, sofar-next, sofar-kind, sofar-all}
+use Rattle.runs.proofs.OperationLists.{Sofar}
 use Rattle.runs.proofs.operations_refusal.Given as goal
 
 abbrev pub invariant-loop-at : goal.invariant-loop-at

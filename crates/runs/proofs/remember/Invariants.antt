@@ -1,12 +1,8 @@
 -- What the loops of `runs::remember` keep. Assumes nothing.
-use mathlib.Core.Path.{◌≡◌, refl, ◌∙◌, ap}
-use mathlib.Core.List.{List, ◌++◌}
-use Prim.Native.Nat.{ℕ, ◌-◌, ◌<◌, ◌≤◌}
-use native.Mathlib.Omega.{arith}
-use borrow.Author.Rules.{rules}
-use lib.ListN.{length, get_or, set, take, drop}
-use lib.Seq.{take-length}
-use Rattle.runs.proofs.Remainders.{start-next}
+use mathlib.Core.Path.{◌≡◌}
+use mathlib.Core.List.{◌++◌}
+use Prim.Native.Nat.{◌-◌, ◌≤◌}
+use lib.ListN.{length, take, drop}
 use Rattle.runs.proofs.remember.Given as goal
 
 abbrev pub invariant-loop-at : goal.invariant-loop-at

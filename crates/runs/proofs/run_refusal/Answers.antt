@@ -1,6 +1,5 @@
 -- `runs::run_refusal` meets its contract. Assumes nothing.
 use mathlib.Core.Path.{refl, sym}
-use borrow.Author.Rules.{rules}
 use borrow.Author.Tests.{eq-eqb, ne_eqb, le-leb, lt-leb}
 use Rattle.runs.proofs.OperationLists.{run-refusal-by}
 use Rattle.runs.proofs.run_refusal.Goals as goal

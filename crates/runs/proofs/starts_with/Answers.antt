@@ -1,12 +1,10 @@
 -- `runs::starts_with` meets its contract. Assumes nothing.
-use mathlib.Core.Path.{◌≡◌, refl}
-use mathlib.Core.Bool.{◌&&◌}
-use Prim.Native.Nat.{◌-◌, ◌<◌, ◌≤◌}
+use mathlib.Core.Path.{refl}
+use Prim.Native.Nat.{◌<◌}
 use native.Mathlib.Omega.{arith}
 use borrow.Author.Rules.{rules}
-use lib.ListN.{length, take, drop, length-take}
+use lib.ListN.{length, take, length-take}
 use lib.Seq.{get_or-take}
-use Rattle.runs.specs.Run.{same}
 use Rattle.runs.proofs.Remainders.{same_next, same_end}
 use Rattle.runs.proofs.starts_with.Goals as goal
 

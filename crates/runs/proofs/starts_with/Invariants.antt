@@ -1,13 +1,9 @@
 -- What the loops of `runs::starts_with` keep. Assumes nothing.
-use mathlib.Core.Path.{◌≡◌, refl}
+use mathlib.Core.Path.{◌≡◌}
 use mathlib.Core.Bool.{◌&&◌}
-use Prim.Native.Nat.{◌-◌, ◌<◌, ◌≤◌}
-use native.Mathlib.Omega.{arith}
-use borrow.Author.Rules.{rules}
-use lib.ListN.{length, take, drop, length-take}
-use lib.Seq.{get_or-take}
+use Prim.Native.Nat.{◌-◌, ◌≤◌}
+use lib.ListN.{length, take, drop}
 use Rattle.runs.specs.Run.{same}
-use Rattle.runs.proofs.Remainders.{same_next, same_end}
 use Rattle.runs.proofs.starts_with.Given as goal
 
 abbrev pub invariant-loop-at : goal.invariant-loop-at

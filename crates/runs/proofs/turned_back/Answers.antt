@@ -1,5 +1,4 @@
 -- `runs::turned_back` meets its contract. Assumes nothing.
-use borrow.Author.Rules.{rules}
 use Rattle.runs.proofs.turned_back.Goals as goal
 
 pub returns : goal.returns

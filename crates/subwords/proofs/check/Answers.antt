@@ -2,7 +2,6 @@
 use mathlib.Core.Path.{◌∙◌}
 use Rattle.subwords.proofs.Sizes.{answers-same}
 use Rattle.subwords.proofs.Words.{halves-check}
-use borrow.Author.Rules.{rules}
 use Rattle.subwords.proofs.check.Goals as goal
 
 pub returns : goal.returns

@@ -1,9 +1,7 @@
 -- `subwords::rights_of` meets its contract. Assumes nothing.
 use mathlib.Core.Path.{◌≡◌, refl, ◌∙◌}
-use mathlib.Core.Logic.{⊎_elim}
-use Prim.Native.Nat.{◌-◌, ◌≤◌}
 use native.Mathlib.Omega.{arith}
-use Rattle.subwords.proofs.Sizes.{searched, found, found_here, found_before, found-whole}
+use Rattle.subwords.proofs.Sizes.{found_here, found_before, found-whole}
 use borrow.Author.Rules.{rules}
 use Rattle.subwords.proofs.rights_of.Goals as goal
 use Rattle.subwords.proofs.rights_of.Goals.{then-index-size, else-index-size}
@@ -17,7 +15,7 @@ loop-index-preserved c =
     let z = c.args.size in (
       search rules,
       elim c.if-index-size.branch [
-        then-index-size w ↦ w.rights-is ∙ found_here l.index z (search rules) w.if-index-size.true
+        | then-index-size w ↦ w.rights-is ∙ found_here l.index z (search rules) w.if-index-size.true
         | else-index-size w ↦ w.rights-is ∙ found_before l.index z (search rules) w.if-index-size.false l.invariant.1
       ],
     )

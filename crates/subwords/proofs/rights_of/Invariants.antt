@@ -1,10 +1,7 @@
 -- What the loops of `subwords::rights_of` keep. Assumes nothing.
-use mathlib.Core.Path.{◌≡◌, refl, ◌∙◌}
-use mathlib.Core.Logic.{⊎_elim}
+use mathlib.Core.Path.{◌≡◌}
 use Prim.Native.Nat.{◌-◌, ◌≤◌}
-use native.Mathlib.Omega.{arith}
-use Rattle.subwords.proofs.Sizes.{searched, found, found_here, found_before, found-whole}
-use borrow.Author.Rules.{rules}
+use Rattle.subwords.proofs.Sizes.{searched, found}
 use Rattle.subwords.proofs.rights_of.Given as goal
 
 abbrev pub invariant-loop-index : goal.invariant-loop-index

@@ -1,7 +1,6 @@
 -- `tiles::mirror_columns` meets its contract. Assumes nothing.
 use mathlib.Core.Path.{◌∙◌}
 use Rattle.tiles.proofs.Mirrors.{columns-mirrored}
-use borrow.Author.Rules.{rules}
 use Rattle.tiles.proofs.mirror_columns.Goals as goal
 
 pub returns : goal.returns

@@ -1,7 +1,6 @@
 -- `tiles::mirror_rows` meets its contract. Assumes nothing.
 use mathlib.Core.Path.{◌∙◌}
 use Rattle.tiles.proofs.Mirrors.{rows-mirrored}
-use borrow.Author.Rules.{rules}
 use Rattle.tiles.proofs.mirror_rows.Goals as goal
 
 pub returns : goal.returns

@@ -3,7 +3,6 @@ use mathlib.Core.Path.{◌∙◌, ap}
 use Prim.Native.Nat.{◌+◌, ◌-◌, ◌^◌}
 use Rattle.subwords.specs.Subword.{exchange_pairs_of}
 use Rattle.tiles.specs.Steps.{mirror_of}
-use borrow.Author.Rules.{rules}
 use Rattle.tiles.proofs.mirrored.Goals as goal
 
 pub returns : goal.returns

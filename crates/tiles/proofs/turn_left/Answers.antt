@@ -3,7 +3,6 @@ use mathlib.Core.Path.{◌∙◌, ap}
 use Rattle.tiles.specs.Tile.{transpose_rule, moved}
 use Rattle.tiles.proofs.Mirrors.{rows-mirrored}
 use Rattle.tiles.proofs.Theorems.{rows-then-transpose}
-use borrow.Author.Rules.{rules}
 use Rattle.tiles.proofs.turn_left.Goals as goal
 
 pub returns : goal.returns

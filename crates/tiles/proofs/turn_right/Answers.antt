@@ -3,7 +3,6 @@ use mathlib.Core.Path.{sym, ◌∙◌, ap}
 use Rattle.tiles.specs.Tile.{rows_rule, moved}
 use Rattle.tiles.proofs.Mirrors.{rows-mirrored}
 use Rattle.tiles.proofs.Theorems.{right_is}
-use borrow.Author.Rules.{rules}
 use Rattle.tiles.proofs.turn_right.Goals as goal
 
 pub returns : goal.returns

@@ -1,5 +1,4 @@
 -- `unit::are_registers` meets its contract. Assumes nothing.
-use borrow.Author.Rules.{rules}
 use Rattle.unit.proofs.RegistersTested.{registers-tested}
 use Rattle.unit.proofs.are_registers.Goals as goal
 

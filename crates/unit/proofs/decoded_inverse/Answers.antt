@@ -1,5 +1,4 @@
 -- `unit::decoded_inverse` meets its contract. Assumes nothing.
-use borrow.Author.Rules.{rules}
 use Rattle.unit.proofs.decoded_inverse.Goals as goal
 
 pub returns : goal.returns

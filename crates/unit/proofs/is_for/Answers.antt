@@ -1,6 +1,5 @@
 -- `unit::is_for` meets its contract. Assumes nothing.
 use mathlib.Core.Path.{refl}
-use borrow.Author.Rules.{rules}
 use Rattle.unit.proofs.is_for.Goals as goal
 
 pub returns : goal.returns

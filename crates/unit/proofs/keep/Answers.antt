@@ -1,6 +1,5 @@
 -- `unit::keep` meets its contract. Assumes nothing.
 use mathlib.Core.Path.{sym, ◌∙◌}
-use borrow.Author.Rules.{rules}
 use Rattle.unit.proofs.KeptNetworks.{kept_same}
 use Rattle.unit.proofs.keep.Goals as goal
 

@@ -1,5 +1,4 @@
 -- `unit::kept_for` meets its contract. Assumes nothing.
-use borrow.Author.Rules.{rules}
 use Rattle.unit.proofs.kept_for.Goals as goal
 
 pub returns : goal.returns

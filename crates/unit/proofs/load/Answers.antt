@@ -1,7 +1,6 @@
 -- `unit::load` meets its contract. Assumes nothing.
 use mathlib.Core.Path.{◌≡◌, sym}
 use Prim.Native.Nat.{◌-◌, ◌%◌}
-use borrow.Author.Rules.{rules}
 use native.Mathlib.Omega.{arith}
 use Rattle.unit.proofs.LentRegisters.{loaded-none}
 use Rattle.unit.proofs.load.Goals as goal

@@ -2,8 +2,6 @@
 use mathlib.Core.Path.{◌≡◌, refl, sym, ◌∙◌}
 use mathlib.Core.Bool.{Bool, false, not}
 use mathlib.Core.List.{[], ◌∷◌}
-use borrow.Author.Rules.{rules}
-use borrow.Author.Tests.{not-true, not-false}
 use Rattle.bits.specs.Refusal.{lowest}
 use Rattle.unit.specs.Operation.{operation_refusal}
 use Rattle.unit.proofs.LowestRefusals.{operation-refusal-by}

@@ -1,5 +1,4 @@
 -- `unit::read` meets its contract. Assumes nothing.
-use borrow.Author.Rules.{rules}
 use borrow.Author.Tests.{eq-eqb, ne_eqb}
 use Rattle.unit.specs.Calls.{read_of}
 use Rattle.unit.proofs.read.Goals as goal

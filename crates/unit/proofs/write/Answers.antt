@@ -1,5 +1,4 @@
 -- `unit::write` meets its contract. Assumes nothing.
-use borrow.Author.Rules.{rules}
 use borrow.Author.Tests.{eq-eqb, ne_eqb}
 use Rattle.unit.specs.Calls.{write_of}
 use Rattle.unit.proofs.write.Goals as goal
