@@ -1,5 +1,4 @@
 -- `frame::answered` meets its contract. Assumes nothing.
-use borrow.Author.Rules.{rules}
 use Rattle.frame.proofs.answered.Goals as goal
 
 pub returns : goal.returns

@@ -1,7 +1,6 @@
 -- `frame::budgets_of` meets its contract. Assumes nothing.
 use mathlib.Core.Path.{◌∙◌}
 use native.Mathlib.Omega.{arith}
-use borrow.Author.Rules.{rules}
 use Rattle.frame.proofs.Offering.{rest-fits, used-fits, ran-within-all, budgets-by}
 use Rattle.frame.proofs.budgets_of.Goals as goal
 

@@ -1,7 +1,6 @@
 -- `frame::list_refusal` meets its contract. Assumes nothing.
 use mathlib.Core.Path.{◌∙◌, ap}
 use mathlib.Core.Bool.{Bool}
-use borrow.Author.Rules.{rules}
 use Rattle.runs.specs.Run.{run_refusal}
 use Rattle.frame.proofs.list_refusal.Goals as goal
 

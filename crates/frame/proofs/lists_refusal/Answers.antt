@@ -1,5 +1,4 @@
 -- `frame::lists_refusal` meets its contract. Assumes nothing.
-use borrow.Author.Rules.{rules}
 use Rattle.unit.specs.Bank.{fresh, bank_of}
 use Rattle.runs.specs.Run.{with_marks}
 use Rattle.frame.proofs.Lowering.{lists-four}

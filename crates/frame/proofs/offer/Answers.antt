@@ -1,10 +1,10 @@
 -- `frame::offer` meets its contract. Assumes nothing.
 use mathlib.Core.Path.{◌≡◌}
 use mathlib.Core.List.{[], ◌∷◌}
-use Prim.Native.Nat.{ℕ, ◌+◌, ◌-◌, ◌<◌, ◌≤◌}
+use Prim.Native.Nat.{ℕ, ◌+◌, ◌<◌, ◌≤◌}
 use native.Mathlib.Omega.{arith}
 use borrow.Author.Rules.{rules}
-use Rattle.frame.proofs.Offering.{Offered, offered-none, offered-long, offered-next, offered-all}
+use Rattle.frame.proofs.Offering.{offered-none, offered-long, offered-next, offered-all}
 use Rattle.frame.proofs.offer.Goals as goal
 
 pub loop-n-init : goal.loop-n-init

@@ -1,10 +1,7 @@
 -- What the loops of `frame::offer` keep. Assumes nothing.
-use mathlib.Core.Path.{◌≡◌}
 use mathlib.Core.List.{[], ◌∷◌}
-use Prim.Native.Nat.{ℕ, ◌+◌, ◌-◌, ◌<◌, ◌≤◌}
-use native.Mathlib.Omega.{arith}
-use borrow.Author.Rules.{rules}
-use Rattle.frame.proofs.Offering.{Offered, offered-none, offered-long, offered-next, offered-all}
+use Prim.Native.Nat.{◌-◌, ◌≤◌}
+use Rattle.frame.proofs.Offering.{Offered}
 use Rattle.frame.proofs.offer.Given as goal
 
 abbrev pub invariant-loop-n : goal.invariant-loop-n

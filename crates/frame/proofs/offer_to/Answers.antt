@@ -2,7 +2,6 @@
 use mathlib.Core.Path.{refl, ap}
 use Prim.Native.Nat.{◌-◌}
 use native.Mathlib.Omega.{arith}
-use borrow.Author.Rules.{rules}
 use Rattle.runs.specs.declared.Turn.{Turn}
 use Rattle.frame.proofs.Counting.{counted-within}
 use Rattle.frame.proofs.offer_to.Goals as goal

@@ -1,5 +1,4 @@
 -- `frame::other_waits` meets its contract. Assumes nothing.
-use borrow.Author.Rules.{rules}
 use borrow.Author.Tests.{eq-eqb, ne_eqb}
 use Rattle.frame.proofs.other_waits.Goals as goal
 

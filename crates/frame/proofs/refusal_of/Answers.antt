@@ -1,5 +1,4 @@
 -- `frame::refusal_of` meets its contract. Assumes nothing.
-use borrow.Author.Rules.{rules}
 use borrow.Author.Tests.{eq-eqb, ne_eqb}
 use Rattle.frame.proofs.refusal_of.Goals as goal
 

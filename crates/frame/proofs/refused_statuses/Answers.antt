@@ -1,17 +1,13 @@
 -- `frame::refused_statuses` meets its contract. Assumes nothing.
 use mathlib.Core.Path.{◌≡◌, ◌∙◌, ap}
-use mathlib.Core.List.{List}
-use Prim.Native.Nat.{ℕ, ◌-◌, ◌<◌, ◌≤◌}
+use Prim.Native.Nat.{ℕ, ◌<◌}
 use native.Mathlib.Omega.{arith}
 use borrow.Author.Rules.{rules}
-use lib.ListN.{length, get_or}
+use lib.ListN.{length}
 use Rattle.bits.specs.Bit.{overwritten}
 use Rattle.bits.proofs.FilledLists.{fill_none, fill-next, fill-all}
-use Rattle.runs.specs.StatusByte.{with_bit}
 use Rattle.frame.proofs.refused_statuses.Goals as goal
-
-abbrev refused : List ℕ → ℕ → ℕ
-refused ss n = with_bit (get_or ss n 0) 2
+use Rattle.frame.proofs.refused_statuses.Invariants.{refused}
 
 pub loop-channel-init : goal.loop-channel-init
 loop-channel-init c = (search rules, search rules, fill_none (refused c.args.statuses) c.args.statuses)

@@ -1,7 +1,8 @@
 -- `frame::run_frame` meets its contract. Assumes nothing.
 use mathlib.Core.Path.{◌≡◌, sym, ◌∙◌}
 use mathlib.Core.List.{List, [], ◌∷◌}
-use Prim.Native.Nat.{◌≤◌}
+use Rattle.unit.specs.declared.Registers.{Registers}
+use Prim.Native.Nat.{ℕ, ◌≤◌}
 use native.Mathlib.Omega.{arith}
 use borrow.Author.Rules.{rules}
 use Rattle.unit.specs.Bank.{bank_of}
@@ -13,32 +14,30 @@ use Rattle.frame.proofs.run_frame.Goals as goal
 use Rattle.frame.proofs.run_frame.Goals.{After-refusal_of-refused, Else-refused-ne0, Start}
 
 -- what the four channels bring
-brought : Start → List Brought
-brought s =
-    let a = s.args in
-    brought_by (bank_of a.registers0 a.list0.now ∷ bank_of a.registers1 a.list1.now ∷ bank_of a.registers2 a.list2.now ∷ bank_of a.registers3 a.list3.now ∷ [])
-    (a.ops0.now ∷ a.ops1.now ∷ a.ops2.now ∷ a.ops3.now ∷ []) a.guarantees.now
+abbrev brought : (r0 r1 r2 r3 : Registers) (l0 l1 l2 l3 o0 o1 o2 o3 g : List ℕ) → List Brought
+brought r0 r1 r2 r3 l0 l1 l2 l3 o0 o1 o2 o3 g =
+    brought_by (bank_of r0 l0 ∷ bank_of r1 l1 ∷ bank_of r2 l2 ∷ bank_of r3 l3 ∷ []) (o0 ∷ o1 ∷ o2 ∷ o3 ∷ []) g
 
-number : (c : After-refusal_of-refused) → let s = c.before.before.before.before.before.before.before.before.before.before.before.before.before.before in c.refusal_of-refused.result ≡ frame_refusal (brought s) s.args.cycles
-unfolding brought
+number : (c : After-refusal_of-refused) → let a = c.args in c.refusal_of-refused.result ≡ frame_refusal (brought a.registers0 a.registers1 a.registers2 a.registers3 a.list0.now a.list1.now a.list2.now a.list3.now a.ops0.now a.ops1.now a.ops2.now a.ops3.now a.guarantees.now) a.cycles
 number c =
-    let m = c.before.before.before.before.before.before in
+    let m = c in
     let a = c.args in
     refusal-by a.registers0 a.registers1 a.registers2 a.registers3 a.list0.now a.list1.now a.list2.now a.list3.now a.ops0.now a.ops1.now a.ops2.now a.ops3.now a.guarantees.now a.cycles
     m.marks_of-marks0.ensures m.marks_of-marks1.ensures m.marks_of-marks2.ensures m.marks_of-marks3.ensures c.lists_refusal-lists.ensures c.refusal_of-refused.ensures
 
 pub returns-then-refused-ne0 : goal.returns-then-refused-ne0
-unfolding brought
 returns-then-refused-ne0 c =
-    let r = c in
-    let s = r in
-    rw c.turned_back.ensures (frame_refused (brought s) s.args.cycles (number (goal.at.returns-then-refused-ne0 c).After-refusal_of-refused) c.if-refused-ne0.true)
+    let a = c.args in
+    rw c.turned_back.ensures (frame_refused (brought a.registers0 a.registers1 a.registers2 a.registers3 a.list0.now a.list1.now a.list2.now a.list3.now a.ops0.now a.ops1.now a.ops2.now a.ops3.now a.guarantees.now) a.cycles (number (goal.at.returns-then-refused-ne0 c).After-refusal_of-refused) c.if-refused-ne0.true)
 
-accepted : (c : Else-refused-ne0) → let s = c.before.before.before.before.before.before.before.before.before.before.before.before.before.before.before in frame_refusal (brought s) s.args.cycles ≡ 0
-accepted c = sym (number c.before) ∙ c.if-refused-ne0.false
+accepted : (c : Else-refused-ne0) → let a = c.args in frame_refusal (brought a.registers0 a.registers1 a.registers2 a.registers3 a.list0.now a.list1.now a.list2.now a.list3.now a.ops0.now a.ops1.now a.ops2.now a.ops3.now a.guarantees.now) a.cycles ≡ 0
+accepted c =
+    let m = c in
+    let a = c.args in
+    sym (refusal-by a.registers0 a.registers1 a.registers2 a.registers3 a.list0.now a.list1.now a.list2.now a.list3.now a.ops0.now a.ops1.now a.ops2.now a.ops3.now a.guarantees.now a.cycles
+    m.marks_of-marks0.ensures m.marks_of-marks1.ensures m.marks_of-marks2.ensures m.marks_of-marks3.ensures c.lists_refusal-lists.ensures c.refusal_of-refused.ensures) ∙ c.if-refused-ne0.false
 
 whole : (c : Else-refused-ne0) → let a = c.args in Whole a.ops0.now × Whole a.ops1.now × Whole a.ops2.now × Whole a.ops3.now × (sum_of_four a.guarantees.now ≤ a.cycles)
-unfolding brought
 whole c =
     let a = c.args in
     frame-whole a.registers0 a.registers1 a.registers2 a.registers3 a.list0.now a.list1.now a.list2.now a.list3.now a.ops0.now a.ops1.now a.ops2.now a.ops3.now a.guarantees.now a.cycles (accepted c)
@@ -65,7 +64,6 @@ pub run_channel-after3-requires : goal.run_channel-after3-requires
 run_channel-after3-requires c = let e = c in (e.requires.3, (whole (goal.at.run_channel-after3-requires c).Else-refused-ne0).3)
 
 pub returns : goal.returns
-unfolding brought
 returns c =
     let r3 = c in
     let r2 = r3 in

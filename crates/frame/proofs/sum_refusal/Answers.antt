@@ -1,6 +1,5 @@
 -- `frame::sum_refusal` meets its contract. Assumes nothing.
 use native.Mathlib.Omega.{arith}
-use borrow.Author.Rules.{rules}
 use borrow.Author.Tests.{lt-ltb, le-ltb}
 use Rattle.frame.specs.Offers.{sum_of_four}
 use Rattle.frame.proofs.sum_refusal.Goals as goal

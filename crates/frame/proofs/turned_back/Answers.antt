@@ -1,5 +1,4 @@
 -- `frame::turned_back` meets its contract. Assumes nothing.
-use borrow.Author.Rules.{rules}
 use Rattle.bits.specs.Bit.{up_to}
 use Rattle.frame.proofs.turned_back.Goals as goal
 
