@@ -1,4 +1,0 @@
-pub mod Lent
-pub mod LentBytes
-pub mod LentList
-pub mod LentFrame
