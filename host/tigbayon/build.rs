@@ -21,8 +21,8 @@ fn main() {
     println!("cargo::metadata=archive={}", archive.display());
     if !archive.is_file() {
         println!(
-            "cargo::error={} is missing: run `rt lib` in crates/tigbayon of the \
-             repository, or name the archive's folder in {LIB_DIR}",
+            "cargo::error={} is missing: run `rt lib --cpu x86-64` in crates/tigbayon \
+             of the repository, or name the archive's folder in {LIB_DIR}",
             archive.display()
         );
     }
