@@ -2,7 +2,7 @@
  * tigbayon.h - the C interface of Tigbayon, a bit-permutation library.
  * SPDX-License-Identifier: MIT OR Apache-2.0
  *
- * Link libtigbayon.a, written to target/staticlib/ by `rt staticlib tigbayon`.
+ * Link libtigbayon.a, which `rt lib --cpu x86-64` in crates/tigbayon writes to its out/.
  * It is for x86-64 with the System V ABI: size_t has 64 bits, the order of bytes
  * is little-endian, and the stack is aligned to 16 bytes at every call. It uses
  * the registers of SSE2. Of the C library it needs memcpy and memset alone.

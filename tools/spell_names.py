@@ -8,7 +8,7 @@ usage: tools/spell_names.py [--check]
 It goes over crates/ (.antt whole; of .rt files the `ghost use` lines and the clauses; must-fail edits), and over the names in backticks of
 README.md, CHANGELOG.md and docs/. A dash goes on joining the parts of a name. Functions of src/, exported names, strings, inputs and outputs
 are not touched. --check writes nothing and lists each old name, its new one, and what else in the repository has the new name.
-Run once, after /opt/rattle/port/port.py. A second run writes nothing more.
+Run once, after the kit's port.py. A second run writes nothing more.
 """
 
 import os

@@ -1,12 +1,12 @@
 //! Finds libtigbayon.a: in the folder that TIGBAYON_LIB_DIR names, or else in
-//! target/staticlib of the repository. A dependent's build script finds its
-//! path in DEP_TIGBAYON_ARCHIVE.
+//! crates/tigbayon/out of the repository, where `rt lib` writes it. A
+//! dependent's build script finds its path in DEP_TIGBAYON_ARCHIVE.
 
 use std::env;
 use std::path::Path;
 
 const LIB_DIR: &str = "TIGBAYON_LIB_DIR";
-const DEFAULT_LIB_DIR: &str = "../../target/staticlib";
+const DEFAULT_LIB_DIR: &str = "../../crates/tigbayon/out";
 
 fn main() {
     let manifest_dir = env::var_os("CARGO_MANIFEST_DIR").expect("cargo sets it");
@@ -21,8 +21,8 @@ fn main() {
     println!("cargo::metadata=archive={}", archive.display());
     if !archive.is_file() {
         println!(
-            "cargo::error={} is missing: run `rt staticlib tigbayon` at the root of the \
-             repository, or name the archive's folder in {LIB_DIR}",
+            "cargo::error={} is missing: run `rt lib --cpu x86-64` in crates/tigbayon \
+             of the repository, or name the archive's folder in {LIB_DIR}",
             archive.display()
         );
     }

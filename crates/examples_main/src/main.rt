@@ -3,7 +3,8 @@
 
 ghost use Rattle.std.specs.Prelude.{◌<◌};
 
-use libc::STDOUT_FILENO;
+use std::io;
+use std::io::Write;
 
 fn hex_digit(n: u64) -> u8
     requires { n < 16 }
@@ -33,9 +34,11 @@ fn line(row: u8, word: u64) -> [u8; 20]
     text
 }
 
-fn main() {
+// A failed write ends the program with its error.
+fn main(rt: HostRuntime) -> io::Result<()> {
     let row12 = gather::gather(64, 0x0FFF0FFF0FFF0FFF, 0x0123045607890ABC);
     let row13 = gather::group(64, 0xFFFFFFFFFFFFFFFF, 5);
-    io::write_all(STDOUT_FILENO, &line(12, row12.word));
-    io::write_all(STDOUT_FILENO, &line(13, row13.word));
+    let mut out = rt.stdout();
+    out.write_all(&line(12, row12.word))?;
+    out.write_all(&line(13, row13.word))
 }
