@@ -79,7 +79,7 @@ module _ (ws : List ℕ) (v h y x : ℕ) where
             record {
               down = 2 - o.0 / 3;
               right = 2 - o.0 % 3;
-              down-near = omega arith;
+              down_near = omega arith;
               right_near = omega arith;
               other = λ q. o.2 (omega (arith, q.0, q.1, o.1));
               lit = sym (around-bit o.0 o.1) ∙ o.3;
@@ -90,9 +90,9 @@ module _ (ws : List ℕ) (v h y x : ℕ) where
       from q =
           let b = q.1 in
           let i = (2 - b.down) * 3 + (2 - b.right) in
-          let r : 2 - i / 3 ≡ b.down = omega (arith, b.down-near, b.right_near) in
-          let c : 2 - i % 3 ≡ b.right = omega (arith, b.down-near, b.right_near) in
-          let l : i < 9 = omega (arith, b.down-near, b.right_near) in
+          let r : 2 - i / 3 ≡ b.down = omega (arith, b.down_near, b.right_near) in
+          let c : 2 - i % 3 ≡ b.right = omega (arith, b.down_near, b.right_near) in
+          let l : i < 9 = omega (arith, b.down_near, b.right_near) in
           rule-lit (around ws v h y x) (around-bit 4 (omega arith) ∙ own-pixel ∙ q.0)
           (i, l, (λ z. b.other (omega (arith, z, r), omega (arith, z, c))), around-bit i l ∙ ap₂ (λ (m n : ℕ). bordered ws v h (y + m) (x + n)) r c ∙ b.lit)
 
@@ -111,4 +111,4 @@ module _ (ws : List ℕ) (v h y x : ℕ) where
   pub lone-goes-out : ((down right : ℕ) → down < 3 → right < 3 → ((down ≡ 1) × (right ≡ 1) → ⊥) → bordered ws v h (y + down) (x + right) ≡ 0)
       → lit_rule (around ws v h y x) ≡ 0
   lone-goes-out f =
-      not-lit (λ e. let b = (new-exactly.0 e).1 in absurd (omega (arith, f b.down b.right b.down-near b.right_near b.other, b.lit)))
+      not-lit (λ e. let b = (new-exactly.0 e).1 in absurd (omega (arith, f b.down b.right b.down_near b.right_near b.other, b.lit)))

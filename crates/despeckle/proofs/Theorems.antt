@@ -103,7 +103,7 @@ module _ (v h : ℕ) where
       in_row y x right l n e = record {
         down = 1;
         right = right;
-        down-near = omega arith;
+        down_near = omega arith;
         right_near = l;
         other = λ q. n q.1;
         lit = e;
@@ -133,21 +133,21 @@ module _ (ws : List ℕ) (v h : ℕ) where
       let f = bordered-lit ws v h (y + b.down) (x + b.right) b.lit in
       let u = f.0 in
       let l = f.1 in
-      let r : u + (2 - b.down) ≡ y + 1 = omega (arith, f.2, b.down-near) in
+      let r : u + (2 - b.down) ≡ y + 1 = omega (arith, f.2, b.down_near) in
       let c : l + (2 - b.right) ≡ x + 1 = omega (arith, f.3, b.right_near) in
       let back : LitBeside ws v h u l = record {
         down = 2 - b.down;
         right = 2 - b.right;
-        down-near = omega arith;
+        down_near = omega arith;
         right_near = omega arith;
-        other = λ q. b.other (omega (arith, q.0, b.down-near), omega (arith, q.1, b.right_near));
+        other = λ q. b.other (omega (arith, q.0, b.down_near), omega (arith, q.1, b.right_near));
         lit = ap₂ (bordered ws v h) r c ∙ own-pixel ws v h y x ∙ e;
       }
       in
       record {
         down = b.down;
         right = b.right;
-        down-near = b.down-near;
+        down_near = b.down_near;
         right_near = b.right_near;
         other = b.other;
         lit =

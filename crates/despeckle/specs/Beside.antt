@@ -7,7 +7,7 @@ use Rattle.despeckle.specs.Plane.{bordered}
 pub record LitBeside (ws : List ℕ) (v h y x : ℕ) : Type 0 where
   pub down : ℕ
   pub right : ℕ
-  pub down-near : down < 3
+  pub down_near : down < 3
   pub right_near : right < 3
   pub other : (down ≡ 1) × (right ≡ 1) → ⊥
   pub lit : bordered ws v h (y + down) (x + right) ≡ 1

@@ -100,10 +100,10 @@ alone-carried c e budget = alone-is c budget ∙ perform-is (other_waits c) c.ba
 abbrev pub nothing : Outcome × Bank
 nothing = leaving (record { refusal = 0; «end» = 0; ran = 0; cycles = 0 }) fresh_bank
 
-pub get_d_map : {A B : Type 0} (f : A → B) (xs : List A) (n : ℕ) (d : A) → get_or (map f xs) n (f d) ≡ f (get_or xs n d)
-get_d_map f [] n d = refl
-get_d_map f (x ∷ xs) zero d = refl
-get_d_map f (x ∷ xs) (suc n) d = get_d_map f xs n d
+pub get_or-map : {A B : Type 0} (f : A → B) (xs : List A) (n : ℕ) (d : A) → get_or (map f xs) n (f d) ≡ f (get_or xs n d)
+get_or-map f [] n d = refl
+get_or-map f (x ∷ xs) zero d = refl
+get_or-map f (x ∷ xs) (suc n) d = get_or-map f xs n d
 
 offered-at : (rest : ℕ) (cs : List Brought) → AllAccepted cs → (n : ℕ) → n < length cs
     → get_or (offered_of rest cs) n nothing ≡ alone_of (channel_at cs n) ((first_turn (channel_at cs n)).0.cycles + offered_at rest cs n)
@@ -187,8 +187,8 @@ module _ (cs : List Brought) (cycles : ℕ) (e : frame_refusal cs cycles ≡ 0) 
   frame-channel =
       let o = offered-at (rest_of cs) cs (frame-accepts cs cycles e).0 n h in
       record {
-        answer = ap (λ (g : Frame × List Bank). answer_at g n) carried ∙ get_d_map (λ o. channel_of o.0) (offered_of (rest_of cs) cs) n nothing ∙ ap (λ (o : Outcome × Bank). channel_of o.0) o;
-        bank = ap (λ (g : Frame × List Bank). bank_at g n) carried ∙ get_d_map (λ o. o.1) (offered_of (rest_of cs) cs) n nothing ∙ ap (λ (o : Outcome × Bank). o.1) o;
+        answer = ap (λ (g : Frame × List Bank). answer_at g n) carried ∙ get_or-map (λ o. channel_of o.0) (offered_of (rest_of cs) cs) n nothing ∙ ap (λ (o : Outcome × Bank). channel_of o.0) o;
+        bank = ap (λ (g : Frame × List Bank). bank_at g n) carried ∙ get_or-map (λ o. o.1) (offered_of (rest_of cs) cs) n nothing ∙ ap (λ (o : Outcome × Bank). o.1) o;
       }
 
   pub frame-bank : bank_at f n ≡ (perform_of (other_waits c) c.bank c.bytes (both_turns cs n)).1
@@ -219,7 +219,7 @@ module _ (cs : List Brought) (cycles : ℕ) (e : frame_refusal cs cycles ≡ 0) 
   frame-next l =
       let o = offered_of (rest_of cs) cs in
       let a : (answer_at f n).ran ≡ (get_or o n nothing).0.ran =
-      ap (λ (g : Frame × List Bank). (answer_at g n).ran) carried ∙ ap (λ (x : Channel). x.ran) (get_d_map (λ x. channel_of x.0) o n nothing)
+      ap (λ (g : Frame × List Bank). (answer_at g n).ran) carried ∙ ap (λ (x : Channel). x.ran) (get_or-map (λ x. channel_of x.0) o n nothing)
       in
       let x : first_cycles cs + rest_of cs < offered_cycles (rest_of cs) cs + next_cycles (get_or o n nothing).0.ran os = offered-next (rest_of cs) cs n h (subst (λ (m : ℕ). m < length os) a l) in
       let y = ap (λ (g : Frame × List Bank). cycles_in g.0.channels) carried in
