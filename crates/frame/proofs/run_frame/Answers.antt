@@ -11,7 +11,7 @@ use Rattle.frame.specs.Offers.{Whole, sum_of_four}
 use Rattle.frame.proofs.Lowering.{refusal-by, frame-whole}
 use Rattle.frame.proofs.OneBudget.{frame-by, frame_refused}
 use Rattle.frame.proofs.run_frame.Goals as goal
-use Rattle.frame.proofs.run_frame.Goals.{After-refusal_of-refused, Else-refused-ne0, Start}
+use Rattle.frame.proofs.run_frame.Goals.{After-refusal_of-refused, Start}
 
 -- what the four channels bring
 abbrev brought : (r0 r1 r2 r3 : Registers) (l0 l1 l2 l3 o0 o1 o2 o3 g : List ℕ) → List Brought
