@@ -2,13 +2,15 @@
 -- Assumes nothing.
 use mathlib.Core.Path.{◌≡◌, refl, sym, ap, ap₂, ◌∙◌}
 use mathlib.Core.Bool.{Bool, true, false, cond, ◌&&◌, false≢true}
-use mathlib.Core.List.{List, []}
+use mathlib.Core.List.{List}
+use Rattle.std.proofs.Common.{Option, Some, None}
 use Prim.Native.Nat.{ℕ, ◌+◌, ◌/◌, ◌^◌, ◌≤◌, ◌<◌}
 use native.Mathlib.Numerals.{add-one}
 use native.Mathlib.Omega.{arith}
 use lib.Bits.{bit_and}
 use lib.Dec.{eqb}
-use lib.ListN.{length}
+use lib.ListN.{length, take}
+use Rattle.std.proofs.lemmas.List.{length-take-le, get_or-take}
 use lib.Pow.{pow_mono}
 use borrow.Author.Tests.{eq-eqb}
 use Rattle.network.specs.Calls.{six}
@@ -18,7 +20,6 @@ use Rattle.routing.specs.Lists.{entry, ListPermutes, butterfly_from, inverse_fro
 use Rattle.routing.proofs.Through.{butterfly-inverse, inverse-butterfly}
 use Rattle.routing.proofs.Alone.{tested-equal, equal-tested}
 use Rattle.routing.proofs.AloneWords.{butterfly-brings, inverse-brings, butterfly-only, inverse-only}
-use Rattle.alone.specs.declared.Found.{Found}
 use Rattle.alone.specs.Asked.{unasked, asked_word, Within, Every, stage_at, both, agree, stage_words}
 use Rattle.alone.specs.Calls.{fits_alone, alone, Answers}
 use Rattle.alone.proofs.Asking.{Routed, Free, asked-only, routed-free, free-routed}
@@ -57,29 +58,29 @@ module _ (rising : Bool) (n : ℕ) (places sources : List ℕ) where
           (stages : List ℕ)
           → i < n
           → (bit_and x y ≡ 0 → ⊥)
-          → Answers (agree rising n places sources) stages (record { realised = false; stages = six [] })
+          → Answers (agree rising n places sources) stages None
       unfolding agree
       met-none stages l z = go (agree rising n places sources) refl
         where
           go :
               (b : Bool)
               → agree rising n places sources ≡ b
-              → Answers b stages (record { realised = false; stages = six [] })
+              → Answers b stages None
           go true t = absurd (z (met ∙ tested-equal n (both rising n places sources) (λ j. 0) t i l))
-          go false t = (refl, refl)
+          go false t = refl
 
   pub met_all :
       {i : ℕ} {out : List ℕ} (stages : List ℕ)
       → i ≡ n
       → every_below i (λ j. eqb (both rising n places sources j) 0) ≡ true
       → out ≡ six stages
-      → Answers (agree rising n places sources) stages (record { realised = true; stages = out })
+      → Answers (agree rising n places sources) stages (Some out)
   unfolding agree
   met_all stages q t f =
       let a : agree rising n places sources ≡ true =
       ap (λ (k : ℕ). every_below k (λ j. eqb (both rising n places sources j) 0)) (sym q) ∙ t
       in
-      (sym a, rw a f)
+      rw a (ap Some f)
 
   agree-free : Within (2 ^ n) places → agree rising n places sources ≡ true → (e : ℕ) → e < n → Free places sources (2 ^ n) e
   unfolding agree
@@ -157,7 +158,7 @@ module _
             ap (butterfly n (defined false)) (k p l).0 ∙ butterfly-brings n entries is e p l ∙ sym (k p l).1
 
     answer :
-        {r : Found}
+        {r : Option (List ℕ)}
         → Within (2 ^ n) places
         → Within (2 ^ n) sources
         → Answers (agree rising n places sources) (stage_words rising n (unasked true places sources (2 ^ n))) r
@@ -186,35 +187,48 @@ module _
         go false t f = rw (turned-back (fits_alone rising n entries) refl t) f
 
 module _ (n : ℕ) (h : n ≤ 6) (entries every : List ℕ) (is : ListPermutes (2 ^ n) entries) (all : Every every) where
-  at_place : (p : ℕ) → p < 2 ^ n → entry every p ≡ p
-  at_place p l = all.1 p (omega (arith, pow_mono h))
+  -- the places of the width
+  abbrev pub named : List ℕ
+  named = take (length entries) every
 
-  every-within : Within (2 ^ n) every
-  every-within = record { long = omega (arith, pow_mono h, all.0); small = λ p l. omega (arith, at_place p l) }
+  pub named-long : length entries ≤ length every
+  named-long = omega (arith, is.long, pow_mono h, all.0)
+
+  pub named-entries : length entries ≡ length named
+  named-entries = sym (length-take-le (length entries) every named-long)
+
+  named-width : length named ≡ 2 ^ n
+  named-width = sym named-entries ∙ is.long
+
+  at_place : (p : ℕ) → p < 2 ^ n → entry named p ≡ p
+  at_place p l = get_or-take (length entries) every p 0 (omega (arith, is.long)) ∙ all.1 p (omega (arith, pow_mono h))
+
+  named-within : Within (2 ^ n) named
+  named-within = record { long = omega (arith, named-width); small = λ p l. omega (arith, at_place p l) }
 
   entries-within : Within (2 ^ n) entries
   entries-within = record { long = omega (arith, is.long); small = is.small }
 
   -- the entries are the places of the inverse (rising), and the sources of the butterfly
   abbrev places : Bool → List ℕ
-  places rising = cond rising entries every
+  places rising = cond rising entries named
 
   abbrev sources : Bool → List ℕ
-  sources rising = cond rising every entries
+  sources rising = cond rising named entries
 
   linked : (rising : Bool) → Linked rising n entries (places rising) (sources rising)
   linked true p l = (refl, at_place p l)
   linked false p l = (at_place p l, refl)
 
-  pub lists-fit : (rising : Bool) → (n ≤ 6) × (length entries ≡ 2 ^ n) × Within (2 ^ n) (places rising) × Within (2 ^ n) (sources rising)
-  lists-fit true = (h, is.long, entries-within, every-within)
-  lists-fit false = (h, is.long, every-within, entries-within)
+  pub lists-fit : (rising : Bool) → (length (places rising) ≡ 2 ^ n) × Within (2 ^ n) (places rising) × Within (2 ^ n) (sources rising)
+  lists-fit true = (is.long, entries-within, named-within)
+  lists-fit false = (named-width, named-within, entries-within)
 
   pub answer-of :
-      (b : Bool) {rising : Bool} {r : Found}
+      {rising : Bool} {r : Option (List ℕ)} (b : Bool)
       → rising ≡ b
-      → Answers (agree b n (places b) (sources b)) (stage_words b n (unasked true (places b) (sources b) (2 ^ n))) r
+      → Answers (agree rising n (places b) (sources b)) (stage_words rising n (unasked true (places b) (sources b) (2 ^ n))) r
       → Answers (fits_alone rising n entries) (alone rising n entries) r
   answer-of b q f =
       let w = lists-fit b in
-      rw q (answer b n entries (places b) (sources b) is (linked b) w.2 w.3 f)
+      rw q (answer b n entries (places b) (sources b) is (linked b) w.1 w.2 (rw q at f))

@@ -5,12 +5,9 @@ use mathlib.Core.Bool.{Bool, true, false, not, cond}
 use mathlib.Core.List.{List}
 use Prim.Native.Nat.{ℕ, zero, suc, ◌+◌, ◌-◌, ◌*◌, ◌/◌, ◌%◌, ◌^◌, ◌≤◌, ◌<◌}
 use native.Mathlib.Nat.{pow-suc, pow-succ', mul-le-mul_right, mod-lt, one-mul, mod-eq_of_lt, div-lt_iff_lt-mul, div-add-mod', div-div-eq-div-mul}
-use native.Mathlib.Decide.{dec_lt}
 use native.Mathlib.Numerals.{add-one}
 use native.Mathlib.Omega.{arith}
 use lib.Bits.{bit_or, bit_xor, or_zero_r}
-use lib.ListN.{length, set}
-use lib.Seq.{get_or-set_same, get_or-set_other}
 use lib.Pow.{pow_pos, pow-lt, pow-add}
 use borrow.Author.Tests.{eq-eqb, ne_eqb}
 use Rattle.bits.specs.Bit.{bit}
@@ -114,17 +111,3 @@ stage-turn way n places sources is p e l h f g =
     let a = entry places p in
     let b = entry sources p in
     g ∙ rw (f, add-one p) (asked-turn way (2 ^ n / 2) e a b (unasked way places sources p e) (crossed-lt n e a b h (is.small p l)))
-
--- one place more of a list of them
-pub place-turn :
-    (l : List ℕ) (k : ℕ)
-    → k < length l
-    → ((p : ℕ) → p < k → entry l p ≡ p)
-    → (p : ℕ)
-    → p < k + 1
-    → entry (set l k k) p ≡ p
-place-turn l k h all p m = go (dec_lt p k)
-  where
-    go : Dec (p < k) → entry (set l k k) p ≡ p
-    go (yes j) = get_or-set_other l k p k 0 (λ q. absurd (omega arith)) ∙ all p j
-    go (no g) = let q : p ≡ k = omega arith in ap (entry (set l k k)) q ∙ get_or-set_same l k k 0 h ∙ sym q

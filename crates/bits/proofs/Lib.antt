@@ -3,6 +3,7 @@ pub mod Rank
 pub mod UpTo
 pub mod Places
 pub mod Refusals
+pub mod Numbers
 pub mod ByteCounts
 pub mod Computed
 pub mod FilledLists

@@ -1,5 +1,30 @@
 -- Accepted widths, and the refusal numbers of paper 01, 'Calls turned back'. Assumes nothing.
-use Rattle.std.specs.Prelude.{◌≡◌, ◌⊎◌, ℕ, ◌^◌, ◌<◌, ◌≤◌, Bool, not, cond, List, [], ◌∷◌, T, eqb, ltb}
+use Rattle.std.specs.Prelude.{◌≡◌, ◌⊎◌, ℕ, ◌^◌, ◌<◌, ◌≤◌, Bool, not, cond, List, [], ◌∷◌, T, eqb, ltb, Result, Ok, Err}
+use Rattle.bits.specs.declared.Refusal.{Refusal}
+use Rattle.bits.specs.declared.Refusal.TheVariants.{Width, Above, Unused, Length, Entry, NotRealised, Kind, Register, Range, Short, Spare, Subword, Plane, Waiting, Frame}
+
+-- the numbers of 'Calls turned back'
+abbrev pub number_of : Refusal → ℕ
+number_of Width = 1
+number_of Above = 2
+number_of Unused = 3
+number_of Length = 4
+number_of Entry = 5
+number_of NotRealised = 6
+number_of Kind = 7
+number_of Register = 8
+number_of Range = 9
+number_of Short = 10
+number_of Spare = 11
+number_of Subword = 12
+number_of Plane = 13
+number_of Waiting = 14
+number_of Frame = 15
+
+-- the refusal number of a call, 0 if it is carried out
+abbrev pub number_in : Result Unit Refusal → ℕ
+number_in (Ok _) = 0
+number_in (Err refusal) = number_of refusal
 
 -- The base-two logarithms of the widths up to 64 ("A width w is 8, 16, 32 or 64, and L is its base-two logarithm, 3 to 6")
 abbrev pub logs_to_64 : List ℕ

@@ -1,11 +1,14 @@
 -- A word of the new plane from the window that passed it, and the words of a row. Assumes nothing.
 use mathlib.Core.Path.{◌≡◌, sym, ◌∙◌, ap, ap₂}
-use mathlib.Core.List.{List}
+use mathlib.Core.List.{List, ◌++◌, append_assoc}
 use Prim.Native.Nat.{ℕ, ◌+◌, ◌-◌, ◌*◌, ◌<◌}
 use native.Mathlib.Omega.{arith}
 use lib.Arith.{digits_div, digits_mod}
-use Rattle.bits.specs.Bit.{bit, of_bits}
+use lib.ListN.{take, drop}
+use lib.Seq.{take_at, drop_at, drop-drop}
+use Rattle.bits.specs.Bit.{bit, of_bits, up_to, overwritten}
 use Rattle.bits.proofs.Word.{of_bits-same}
+use Rattle.bits.proofs.UpTo.{length-up_to, up_to-add}
 use Rattle.despeckle.specs.Plane.{bordered, around, lit_rule, new_word}
 use Rattle.despeckle.specs.Window.{Columns, Passes}
 
@@ -35,3 +38,13 @@ module _ (ws : List ℕ) (v h y at : ℕ) where
 
     pub word-passed : at < v → word ≡ new_word ws v h (y * v + at)
     word-passed l = (p.passed (bordered ws v h) y (64 * at) e columns).1 ∙ sym (new_word_lem l)
+
+-- the rows above are filled, and then this one
+pub row-filled : (f : ℕ → ℕ) (a v : ℕ) (old : List ℕ) {out ys : List ℕ} → out ≡ overwritten a f old → ys ≡ up_to v (λ i. f (a + i))
+    → take a out ++ (ys ++ drop (a + v - a) (drop a out)) ≡ overwritten (a + v) f old
+row-filled f a v old e s =
+    let xs = up_to a f in
+    let n = length-up_to f a in
+    let d : a + v - a ≡ v = omega arith in
+    rw (e, s, d, take_at xs (drop a old) a n, drop_at xs (drop a old) a n, drop-drop v a old)
+    (sym (append_assoc xs (up_to v (λ i. f (a + i))) (drop (a + v) old)) ∙ ap (λ (l : List ℕ). l ++ drop (a + v) old) (sym (up_to-add a v f)))

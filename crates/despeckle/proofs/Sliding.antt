@@ -4,7 +4,7 @@ use mathlib.Core.Bool.{Bool, true, false, cond, ◌&&◌}
 use mathlib.Core.List.{List}
 use Prim.Native.Nat.{ℕ, zero, suc, ◌+◌, ◌-◌, ◌*◌, ◌/◌, ◌%◌, ◌^◌, ◌<◌, ◌≤◌, min, max}
 use native.Mathlib.Omega.{arith}
-use native.Mathlib.Nat.{mod-eq_of_lt, div-one, mul-le-mul_right}
+use native.Mathlib.Nat.{mod-eq_of_lt, mul-le-mul_right}
 use lib.Pow.{pow_pos, pow-add, pow_mono, shr-shr}
 use native.Mathlib.Decide.{ℕ_discrete}
 use lib.Dec.{eqb, ltb}
@@ -26,6 +26,12 @@ three-joined {a} {o} {b} ha ho hb =
     ∙ ap (λ (m : ℕ). bit_or m b) (or_shifted a 6 (o * 2 ^ 3) (omega (arith, ho)) ∙ e)
     ∙ or_shifted (a * 8 + o) 3 b hb
     ∙ omega arith
+
+-- the first two pixels of three rows end to end make a window's number
+pub first-lt : (a o b : ℕ) → a < 2 ^ 64 → o < 2 ^ 64 → b < 2 ^ 64 → bit_or (bit_or (a / 2 ^ 62 * 2 ^ 6 % 2 ^ 64) (o / 2 ^ 62 * 2 ^ 3 % 2 ^ 64)) (b / 2 ^ 62) < 2 ^ 9
+first-lt a o b ha ho hb =
+    let q = three-joined {a = a / 2 ^ 62} {o = o / 2 ^ 62} {b = b / 2 ^ 62} (omega (arith, ha)) (omega (arith, ho)) (omega (arith, hb)) in
+    omega (arith, q, ha, ho, hb)
 
 pub column-joined : (a o b : ℕ) → bit_or (bit_or (a % 2 * 2 ^ 6 % 2 ^ 64) (o % 2 * 2 ^ 3 % 2 ^ 64)) (b % 2) ≡ column_of a o b
 column-joined a o b = three-joined (omega arith) (omega arith) (omega arith)
@@ -97,14 +103,13 @@ module _ (g : ℕ → ℕ → ℕ) (y x : ℕ) where
       ∙ slid_at i h
       ∙ sym (bit-window g y (x + 1) i h)
 
+pub slide-lt : (n c : ℕ) → c < 2 ^ 9 → bit_or (bit_and n 219 * 2 ^ 1 % 2 ^ 64) c < 2 ^ 9
+slide-lt n c h = or_lt 9 (bit_and n 219 * 2 ^ 1 % 2 ^ 64) c (omega (arith, and_le_r n 219)) h
+
 pub slides : (n c : ℕ) → c < 2 ^ 9 → Slides n c (bit_or (bit_and n 219 * 2 ^ 1 % 2 ^ 64) c)
 slides n c h = record {
-  small = below;
-  next = λ g y x e f. ext 9 below (window-lt g y (x + 1)) (λ i l. ap₂ (λ (m k : ℕ). bit (bit_or (bit_and m 219 * 2 ^ 1 % 2 ^ 64) k) i) e f ∙ slid g y x i l);
+  next = λ g y x e f. ext 9 (slide-lt n c h) (window-lt g y (x + 1)) (λ i l. ap₂ (λ (m k : ℕ). bit (bit_or (bit_and m 219 * 2 ^ 1 % 2 ^ 64) k) i) e f ∙ slid g y x i l);
 }
-  where
-    below : bit_or (bit_and n 219 * 2 ^ 1 % 2 ^ 64) c < 2 ^ 9
-    below = or_lt 9 (bit_and n 219 * 2 ^ 1 % 2 ^ 64) c (omega (arith, and_le_r n 219)) h
 
 -- the rule's outcome is a bit
 pub rule-lt : (n : ℕ) → lit_rule n < 2
@@ -121,10 +126,9 @@ rule-at e = record { entry = entries lit_rule 512 e }
 
 -- no column, one column, and more of them
 
-pub passes_none : {start : ℕ} (above own below : ℕ) → start < 2 ^ 9 → Passes 0 start above own below start 0
+pub passes_none : {start : ℕ} (above own below : ℕ) → Passes 0 start above own below start 0
 unfolding of_bits
-passes_none above own below h = record {
-  small = h;
+passes_none above own below = record {
   fits = omega arith;
   passed = λ g y x e c. (let z : x ≡ x + 0 = omega arith in e ∙ ap (window g y) z, refl);
 }
@@ -133,7 +137,6 @@ module _ (above own below : ℕ) {start column number word : ℕ} where
   pub passes-one : Slides start column number → column ≡ column_of above own below → word ≡ lit_rule start → Passes 1 start above own below number word
   unfolding of_bits
   passes-one s e w = record {
-    small = s.small;
     fits = omega (arith, w, rule-lt start);
     passed = λ g y x n c. (s.next g y x n (e ∙ same g y x c), w ∙ new g y x n);
   }
@@ -155,7 +158,6 @@ module _ (n k above own below : ℕ) {start middle number high low : ℕ} where
   pub passes-more : Passes n start (above / 2 ^ k) (own / 2 ^ k) (below / 2 ^ k) middle high → Passes k middle above own below number low
       → Passes (n + k) start above own below number (high * 2 ^ k + low)
   passes-more p q = record {
-    small = q.small;
     fits = omega (arith, mul-le-mul_right (2 ^ k) p.fits, q.fits, pow-add 2 n k);
     passed = λ g y x e c.
         let f = p.passed g y x e (high-columns g y x c) in
@@ -214,7 +216,3 @@ module _ (total from place k above own below : ℕ) (e : place + k ≡ from) (h 
     where
       apart : (row : ℕ) → row / 2 ^ from ≡ row / 2 ^ place / 2 ^ k
       apart row = ap (λ (m : ℕ). row / 2 ^ m) (sym e) ∙ sym (shr-shr row place k)
-
-pub passes-whole : {n start above own below number word : ℕ} → Passes (n - 0) start (above / 2 ^ 0) (own / 2 ^ 0) (below / 2 ^ 0) number word
-    → Passes n start above own below number word
-passes-whole {n} {start} {above} {own} {below} {number} {word} p = let e : n - 0 ≡ n = omega arith in rw (e, div-one above, div-one own, div-one below) at p

@@ -1,4 +1,5 @@
 pub mod Plane
 pub mod Calls
 pub mod Window
+pub mod Steps
 pub mod Beside

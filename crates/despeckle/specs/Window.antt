@@ -19,7 +19,6 @@ column_of above own below = above % 2 * 2 ^ 6 + (own % 2 * 2 ^ 3 + below % 2)
 
 -- Whatever the pixels g: a window and the column after it make the window one column on.
 pub record Slides (number column r : ℕ) : Type 0 where
-  pub small : r < 2 ^ 9
   pub next : (g : ℕ → ℕ → ℕ) (y x : ℕ) → number ≡ window g y x → column ≡ column_of (g y (x + 3)) (g (y + 1) (x + 3)) (g (y + 2) (x + 3))
       → r ≡ window g y (x + 1)
 
@@ -31,7 +30,6 @@ pub record Columns (n : ℕ) (g : ℕ → ℕ → ℕ) (y x above own below : �
 
 -- A window moved on by n columns, which stand in the low bits of three words: its number there, and the new pixels of the columns passed.
 pub record Passes (n start above own below number word : ℕ) : Type 0 where
-  pub small : number < 2 ^ 9
   pub fits : word < 2 ^ n
   pub passed : (g : ℕ → ℕ → ℕ) (y x : ℕ) → start ≡ window g y x → Columns n g y (x + 3) above own below
       → (number ≡ window g y (x + n)) × (word ≡ of_bits n (λ i. lit_rule (window g y (x + (n - 1 - i)))))

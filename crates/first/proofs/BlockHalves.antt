@@ -14,6 +14,8 @@ use Rattle.routing.proofs.Through.{within}
 use Rattle.routing.proofs.WalkSteps.{Set, done_end}
 use Rattle.routing.proofs.FirstControls.{first-controls-cong}
 use Rattle.routing.proofs.Level.{half-permutes, first_step}
+use Rattle.first.specs.declared.Mark.{Mark}
+use Rattle.first.specs.declared.Mark.TheVariants.{Swaps}
 use Rattle.first.specs.Marks.{mark_swaps, mark_of, row, marks_at, swaps_from, controls_in, InOuter, InBlock, Kept}
 use Rattle.first.specs.Blocks.{place_in, BlockPermutes, PlacesKept, Peeled, Routable, BlockRouted}
 use Rattle.first.proofs.Storing.{mark-swaps}
@@ -35,7 +37,7 @@ permutes-cong w π ρ π' ρ' perm to from =
 
 -- what is kept in less is kept in more
 kept-wider :
-    (In In' : Stage → ℕ → Type 0) (marks marks' : List ℕ)
+    (In In' : Stage → ℕ → Type 0) (marks marks' : List Mark)
     → ((c : Stage) (i : ℕ) → In c i → In' c i)
     → Kept In marks marks'
     → Kept In' marks marks'
@@ -43,7 +45,10 @@ kept-wider In In' marks marks' more kept c i he hi out = kept c i he hi (λ z. o
 
 module _
     (e b : ℕ)
-    (to from marks to₁ from₁ marks₁ : List ℕ)
+    (to from : List ℕ)
+    (marks : List Mark)
+    (to₁ from₁ : List ℕ)
+    (marks₁ : List Mark)
     (r : Routable e b to from marks)
     (p : Peeled e b to from marks to₁ from₁ marks₁)
   where
@@ -66,10 +71,10 @@ module _
         p.stepped.settled.done s l
 
     is-first : (s : ℕ) → s < 2 ^ e → f s ≡ first_swap e π ρ s
-    is-first s l = mark-swaps (get_or marks₁ (32 * e + b + s) 0) (first_swap e π ρ s) (outer-set s l).first
+    is-first s l = mark-swaps (get_or marks₁ (32 * e + b + s) Swaps) (first_swap e π ρ s) (outer-set s l).first
 
     is_last : (s : ℕ) → s < 2 ^ e → g s ≡ last_swap e π ρ s
-    is_last s l = mark-swaps (get_or marks₁ (192 + 32 * e + b + s) 0) (last_swap e π ρ s) (outer-set s l).last
+    is_last s l = mark-swaps (get_or marks₁ (192 + 32 * e + b + s) Swaps) (last_swap e π ρ s) (outer-set s l).last
 
     outer-kept : Kept (InBlock e b) marks marks₁
     outer-kept =
@@ -132,13 +137,13 @@ module _
 
       -- a routed half has the first controls of its part of the permutation
       half-first :
-          (h : Bool) (b' : ℕ) (to' from' marks' marks'' : List ℕ)
+          (h : Bool) (b' : ℕ) (to' from' : List ℕ) (marks' marks'' : List Mark)
           → ((q : ℕ) → q < 2 ^ e → place_in to' b' q ≡ place_in to₁ b (weight h e + q))
           → ((q : ℕ) → q < 2 ^ e → place_in from' b' q ≡ place_in from₁ b (weight h e + q))
           → ((c : Stage) (s : ℕ)
           → exponent c ≤ k
           → s < 2 ^ k
-          → get_or marks'' (row c + b + (weight h k + s)) 0 ≡ get_or marks' (row c + b' + s) 0)
+          → get_or marks'' (row c + b + (weight h k + s)) Swaps ≡ get_or marks' (row c + b' + s) Swaps)
           → Agree (suc k) (controls_in b' marks') (first_controls (suc k) (place_in to' b') (place_in from' b'))
           → Agree e (within e h (controls_in b marks'')) (first_controls e (half_to e π g h) (half_from e ρ f h))
       half-first h b' to' from' marks' marks'' ts fs same first c s i =
@@ -156,7 +161,8 @@ module _
       module _
           (b' : ℕ)
           (bq : b' ≡ b + 2 ^ k)
-          (to₂ from₂ marks₂ : List ℕ)
+          (to₂ from₂ : List ℕ)
+          (marks₂ : List Mark)
           (lower : BlockRouted k b to₁ from₁ marks₁ to₂ from₂ marks₂)
         where
           high :
@@ -195,7 +201,7 @@ module _
                     });
               }
 
-          module _ (to₃ from₃ marks₃ : List ℕ) (upper : BlockRouted k b' to₂ from₂ marks₂ to₃ from₃ marks₃) where
+          module _ (to₃ from₃ : List ℕ) (marks₃ : List Mark) (upper : BlockRouted k b' to₂ from₂ marks₂ to₃ from₃ marks₃) where
             outer_same :
                 (c : Stage) (s : ℕ) → exponent c ≡ e → s < 2 ^ e → controls_in b marks₃ c s ≡ controls_in b marks₁ c s
             outer_same c s ce l =
@@ -211,7 +217,7 @@ module _
                 half-first false b to₁ from₁ marks₂ marks₃ (λ q l. low-place to₁ q) (λ q l. low-place from₁ q)
                 (λ c s he l.
                 let i : row c + b + (0 + s) ≡ row c + b + s = omega arith in
-                ap (λ (i : ℕ). get_or marks₃ i 0) i
+                ap (λ (i : ℕ). get_or marks₃ i Swaps) i
                 ∙ kept_at (InBlock k b') c b s marks₂ marks₃ upper.kept (omega (arith, r.fits.stage))
                 (omega (arith, r.fits.room, two)) (λ o. absurd (omega (arith, o.low))))
                 lower.first
@@ -221,7 +227,7 @@ module _
                 (λ q l. high from₁ from₂ lower.from-kept q)
                 (λ c s he l.
                 let i : row c + b + (2 ^ k + s) ≡ row c + b' + s = omega arith in
-                ap (λ (i : ℕ). get_or marks₃ i 0) i)
+                ap (λ (i : ℕ). get_or marks₃ i Swaps) i)
                 upper.first
 
             inside : (l l' l'' l''' : List ℕ) → PlacesKept e b l l' → PlacesKept k b l' l'' → PlacesKept k b' l'' l''' → PlacesKept e b l l'''

@@ -1,16 +1,14 @@
 -- The entries of a permutation and its inverse, laid down one by one.
 -- Assumes nothing.
-use mathlib.Core.Path.{◌≡◌, ap, ◌∙◌, subst}
+use mathlib.Core.Path.{◌≡◌, ap, ◌∙◌}
 use mathlib.Core.List.{List}
 use Prim.Native.Nat.{ℕ, ◌+◌, ◌*◌, ◌≤◌, ◌<◌}
-use native.Mathlib.Decide.{dec_lt}
 use native.Mathlib.Omega.{arith}
-use lib.ListN.{length, get_or, set as store, length-set}
-use lib.Seq.{get_or-set_same, get_or-set_other}
+use lib.ListN.{length, get_or}
 use Rattle.routing.specs.FirstControls.{Permutes}
 use Rattle.routing.specs.Lists.{find, entry, ListPermutes}
 use Rattle.routing.proofs.ListControls.{list-permutes}
-use Rattle.routing.proofs.InverseEntries.{LaidBelow, laid_more, laid-all}
+use Rattle.routing.proofs.InverseEntries.{LaidBelow, laid-all}
 use Rattle.first.specs.Blocks.{place_in, Placed}
 use Rattle.first.proofs.BlockHalves.{permutes-cong}
 
@@ -24,37 +22,6 @@ pub record PlacedBelow (k : ℕ) (entries to from : List ℕ) : Type 0 where
 module _ (entries : List ℕ) (fits : length entries ≤ 64) (is : ListPermutes (length entries) entries) where
   abbrev w : ℕ
   w = length entries
-
-  pub entry-small : (p : ℕ) → p < length entries → entry entries p < 64
-  entry-small p l = omega (arith, is.small p (omega (arith, is.long)))
-
-  pub place-turn :
-      (k : ℕ) (to from : List ℕ) {x : ℕ}
-      → k < length entries
-      → PlacedBelow k entries to from
-      → x ≡ entry entries k
-      → PlacedBelow (k + 1) entries (store to k (entry entries k)) (store from x k)
-  place-turn k to from {x} l b q =
-      record {
-        to-long = length-set to k (entry entries k) ∙ b.to-long;
-        from-long = length-set from x k ∙ b.from-long;
-        to_is = λ p h. to-go p h (dec_lt p k);
-        from_is =
-            rw q
-            (laid_more w entries is k (λ p. p) (λ x. get_or from x 0) b.from_is (λ x. get_or (store from (entry entries k) k) x 0) room
-            (get_or-set_same from (entry entries k) k 0 (omega (arith, is.small k room, b.from-long)))
-            (λ x n. get_or-set_other from (entry entries k) x k 0 n));
-      }
-    where
-      room : k < w
-      room = omega (arith, is.long)
-
-      to-go : (p : ℕ) → p < k + 1 → Dec (p < k) → get_or (store to k (entry entries k)) p 0 ≡ entry entries p
-      to-go p h (yes m) = get_or-set_other to k p (entry entries k) 0 (omega arith) ∙ b.to_is p m
-      to-go p h (no n) =
-          let z : k ≡ p = omega arith in
-          subst (λ (p : ℕ). get_or (store to k (entry entries k)) p 0 ≡ entry entries p) z
-          (get_or-set_same to k (entry entries k) 0 (omega (arith, b.to-long)))
 
   pub place_end : (k : ℕ) (to from : List ℕ) → length entries ≤ k → PlacedBelow k entries to from → Placed w entries to from
   place_end k to from l b =

@@ -5,7 +5,7 @@ use mathlib.Core.List.{List, []}
 use Prim.Native.Nat.{ℕ, suc, ◌+◌, ◌^◌, ◌≤◌, ◌<◌}
 use native.Mathlib.Omega.{arith}
 use lib.Pow.{pow_mono}
-use lib.ListN.{length, get_or, replicate, length-replicate, get_or-replicate}
+use lib.ListN.{length, replicate, length-replicate, get_or-replicate}
 use Rattle.network.specs.Calls.{six}
 use Rattle.routing.specs.Stages.{Agree}
 use Rattle.routing.specs.FirstControls.{Permutes, first_controls}
@@ -13,9 +13,11 @@ use Rattle.routing.specs.Lists.{find, entry, ListPermutes, controls_of, butterfl
 use Rattle.routing.proofs.FirstControls.{first-controls-cong, inverse-unique}
 use Rattle.routing.proofs.ListControls.{list-permutes}
 use Rattle.routing.proofs.StageWords.{words-cong}
-use Rattle.first.specs.Marks.{row, controls_in}
+use Rattle.first.specs.declared.Mark.{Mark}
+use Rattle.first.specs.declared.Mark.TheVariants.{Swaps, Unset}
+use Rattle.first.specs.Marks.{mark_of, row, controls_in}
 use Rattle.first.specs.Blocks.{place_in, Routable, BlockRouted, Placed}
-use Rattle.first.proofs.Storing.{slot_small, mark-unset}
+use Rattle.first.proofs.Storing.{slot_small}
 
 -- one place has no stages
 pub no-butterfly : (log : ℕ) (entries : List ℕ) → log ≡ 0 → six [] ≡ six (first_words log entries).butterfly
@@ -37,23 +39,23 @@ module _ (log : ℕ) (entries : List ℕ) (small : log ≤ 6) (is : ListPermutes
     wide : length entries ≡ 2 ^ suc e
     wide = is.long ∙ ap (λ (n : ℕ). 2 ^ n) one
 
-    pub all-routable : Routable e 0 to from (replicate 384 1)
+    pub all-routable : Routable e 0 to from (replicate 384 Unset)
     all-routable =
         record {
-          long = length-replicate {A = ℕ} 384 1;
+          long = length-replicate {A = Mark} 384 Unset;
           to-long = placed.to-long;
           from-long = placed.from-long;
           fits = record { stage = omega arith; room = omega (arith, pow_mono {i = e} {j = 5} (omega arith)) };
           perm = subst (λ (w : ℕ). Permutes w (place_in to 0) (place_in from 0)) wide placed.perm;
           fresh = λ c i z.
-              mark-unset (get_or (replicate 384 1) (row c + i) 0)
-              (get_or-replicate {A = ℕ} 384 (row c + i) 1 0
+              ap mark_of
+              (get_or-replicate {A = Mark} 384 (row c + i) Unset Swaps
               (slot_small c i (omega (arith, z.inner)) (omega (arith, z.high, pow_mono {i = e} {j = 5} (omega arith)))));
         }
 
     pub routed-first :
-        (to' from' marks' : List ℕ)
-        → BlockRouted e 0 to from (replicate 384 1) to' from' marks'
+        (to' from' : List ℕ) (marks' : List Mark)
+        → BlockRouted e 0 to from (replicate 384 Unset) to' from' marks'
         → words_of log (controls_in 0 marks') ≡ first_words log entries
     unfolding first_words controls_of
     routed-first to' from' marks' routed =

@@ -1,54 +1,74 @@
 -- Rows of marks as the words of stages.
 -- Assumes nothing.
 use mathlib.Core.Path.{◌≡◌, refl, sym, ap, ap₂, ◌∙◌, fun_ext}
-use mathlib.Core.Bool.{Bool, cond}
+use mathlib.Core.Bool.{Bool, true, false, not, cond}
 use mathlib.Core.List.{List}
-use Prim.Native.Nat.{ℕ, zero, suc, ◌+◌, ◌-◌, ◌*◌, ◌/◌, ◌%◌, ◌^◌, ◌≤◌, ◌<◌}
+use Prim.Native.Nat.{ℕ, zero, suc, ◌+◌, ◌-◌, ◌*◌, ◌/◌, ◌^◌, ◌≤◌, ◌<◌}
 use native.Mathlib.Omega.{arith}
-use native.Mathlib.Nat.{mod-eq_of_lt, mod-lt, one-mul, zero-mul}
-use lib.Dec.{eqb}
 use lib.Pow.{pow_mono}
+use mir.Val.{bool_byte}
 use lib.ListN.{length, get_or}
 use Rattle.routing.specs.Stages.{Stage, Butterfly, Inverse}
 use Rattle.routing.specs.Lists.{word_of, Words, words_of}
 use Rattle.routing.proofs.StageWords.{word_small, length-butterfly, length-inverse}
 use Rattle.routing.proofs.StageWords as stage
+use Rattle.first.specs.declared.Mark.{Mark}
+use Rattle.first.specs.declared.Mark.TheVariants.{Swaps}
 use Rattle.first.specs.Marks.{mark_swaps, row, swaps_from, controls_in}
 
--- a control bit brought to its switch
-shifted : (m s : ℕ) → s < 32 → m % 2 * 2 ^ s % 2 ^ 64 ≡ cond (mark_swaps m) 0 (2 ^ s)
-unfolding mark_swaps
-shifted m s l = go (m % 2) (mod-lt m (omega arith))
+doubled : (v : Bool) (k : ℕ) → cond v 0 (2 ^ suc k) ≡ 2 * cond v 0 (2 ^ k)
+doubled true k = refl
+doubled false k = let twice : 2 ^ suc k ≡ 2 * 2 ^ k = omega arith in twice
+
+-- a word by its lowest bit and those above it
+word-front : (k : ℕ) (c : ℕ → Bool) → word_of (suc k) c ≡ 2 * word_of k (λ j. c (suc j)) + cond (c 0) 0 1
+unfolding word_of
+word-front zero c = omega arith
+word-front (suc k) c = omega (arith, word-front k c, doubled (c (suc k)) k)
+
+control-byte : (v : Bool) → bool_byte (not v) ≡ cond v 0 1
+control-byte true = refl
+control-byte false = refl
+
+-- the switches from s on as a word, and one switch more below them
+module _
+    (marks : List Mark)
+    (at count s word : ℕ)
+    (some : 0 < s)
+    (low : s ≤ count)
+    (small : count ≤ 32)
+    (is : word ≡ word_of (count - s) (λ j. swaps_from marks at (s + j)))
   where
-    small : 2 ^ s < 2 ^ 64
-    small = omega (arith, pow_mono {i = s} {j = 32} (omega arith))
+    pub twice_fits : 2 * word < 2 ^ 32
+    twice_fits =
+        let c = λ (j : ℕ). swaps_from marks at (s + j) in
+        omega (arith, word_small (count - s) c, pow_mono {i = count - s} {j = 31} (omega arith))
 
-    go : (d : ℕ) → d < 2 → d * 2 ^ s % 2 ^ 64 ≡ cond (eqb d 0) 0 (2 ^ s)
-    go zero h = rw zero-mul refl
-    go (suc zero) h = rw one-mul (mod-eq_of_lt small)
-    go (suc (suc d)) h = absurd (omega arith)
+    module _ {bit : ℕ} {v : Bool} (vq : v ≡ swaps_from marks at (s - 1)) (bq : bit ≡ bool_byte (not v)) where
+      pub word-turn : 2 * word + bit ≡ word_of (count - (s - 1)) (λ j. swaps_from marks at (s - 1 + j))
+      word-turn =
+          let c = swaps_from marks at in
+          let k = count - s in
+          let here : s - 1 ≡ s - 1 + 0 = omega arith in
+          let longer : suc k ≡ count - (s - 1) = omega arith in
+          let above = fun_ext (λ (j : ℕ). let q : s + j ≡ s - 1 + suc j = omega arith in ap c q) in
+          let high : word ≡ word_of k (λ j. c (s - 1 + suc j)) = is ∙ ap (word_of k) above in
+          let low : bit ≡ cond (c (s - 1 + 0)) 0 1 = bq ∙ control-byte v ∙ ap (λ (v : Bool). cond v 0 1) (vq ∙ ap c here) in
+          let whole : 2 * word + bit ≡ word_of (suc k) (λ j. c (s - 1 + j)) = omega (arith, high, low, word-front k (λ j. c (s - 1 + j))) in
+          whole ∙ ap (λ (k : ℕ). word_of k (λ j. c (s - 1 + j))) longer
 
-module _ (marks : List ℕ) (at s : ℕ) (l : s < 32) {out bit : ℕ} (is : out ≡ word_of s (swaps_from marks at)) (bq : bit ≡ get_or marks (at + s) 0 % 2) where
-  pub word-turn : out + bit * 2 ^ s % 2 ^ 64 ≡ word_of (s + 1) (swaps_from marks at)
-  unfolding word_of
-  word-turn =
-      let z : suc s ≡ s + 1 = omega arith in
-      ap₂ (λ (x y : ℕ). x + y) is (ap (λ (d : ℕ). d * 2 ^ s % 2 ^ 64) bq ∙ shifted (get_or marks (at + s) 0) s l)
-      ∙ ap (λ (k : ℕ). word_of k (swaps_from marks at)) z
-
-  pub word_fits : out + bit * 2 ^ s % 2 ^ 64 < 2 ^ 64
-  word_fits =
-      omega (arith, word-turn, word_small (s + 1) (swaps_from marks at), pow_mono {i = s + 1} {j = 32} (omega arith))
-
-pub word-narrow : (k : ℕ) (c : ℕ → Bool) → k ≤ 32 → word_of k c < 2 ^ 32
-word-narrow k c l = omega (arith, word_small k c, pow_mono l)
+      pub word_fits : 2 * word + bit < 2 ^ 32
+      word_fits =
+          let c = λ (j : ℕ). swaps_from marks at (s - 1 + j) in
+          let k = count - (s - 1) in
+          omega (arith, word-turn, word_small k c, pow_mono {i = k} {j = 32} (omega arith))
 
 half-width : (log : ℕ) → 0 < log → 2 ^ (log - 1) ≡ 2 ^ log / 2
 half-width zero l = absurd (omega arith)
 half-width (suc k) l = let z : k ≡ suc k - 1 = omega arith in omega (arith, ap (λ (n : ℕ). 2 ^ n) z)
 
 -- the words of all stages, in the direction of travel
-module _ (marks : List ℕ) (log : ℕ) (some : 0 < log) where
+module _ (marks : List Mark) (log : ℕ) (some : 0 < log) where
   abbrev both : Words
   both = words_of log (controls_in 0 marks)
 
@@ -64,7 +84,7 @@ module _ (marks : List ℕ) (log : ℕ) (some : 0 < log) where
       (fun_ext
       (λ s.
       let i : row c + s ≡ row c + 0 + s = omega arith in
-      ap (λ (i : ℕ). mark_swaps (get_or marks i 0)) i))
+      ap (λ (i : ℕ). mark_swaps (get_or marks i Swaps)) i))
 
   pub butterfly-count : length both.butterfly ≡ log
   unfolding words_of

@@ -12,24 +12,26 @@ use lib.Pow.{pow_pos}
 use lib.ListN.{get_or}
 use borrow.Author.Tests.{lt-leb}
 use Rattle.routing.specs.Place.{Place, num}
-use Rattle.routing.specs.Marks.{Mark, unset, Marks, count_unset}
+use Rattle.routing.specs.Marks.{Mark as Known, unset, Marks, count_unset}
 use Rattle.routing.specs.Stages.{Stage, Butterfly, Inverse, exponent}
 use Rattle.routing.specs.Level.{other, Sets}
 use Rattle.routing.specs.Walk.{OnWalk}
 use Rattle.routing.proofs.PlaceNumbers.{num-lt}
 use Rattle.routing.proofs.Level.{other-small}
-use Rattle.routing.proofs.Arrays.{count_same, count-falls}
+use Rattle.routing.proofs.UnsetSwitches.{count_same, count-falls}
 use Rattle.routing.proofs.WalkSteps.{done-start, done-skip, at-start, at_small, at_last, after-end, after-unset, after_next}
+use Rattle.first.specs.declared.Mark.{Mark}
+use Rattle.first.specs.declared.Mark.TheVariants.{Swaps, Unset}
 use Rattle.first.specs.Marks.{mark_swaps, mark_of, row, marks_at, BlockFits, InOuter, Kept, MarksSet}
 use Rattle.first.specs.Blocks.{place_in, Settled, AtLast, AtFirst, Stepped, Routable}
-use Rattle.first.proofs.Storing.{mark-unset, mark_set}
+use Rattle.first.proofs.Storing.{mark_set}
 
 -- only the marks of switches below 2^n count
-on-places : (n : ℕ) (M M' : ℕ → Mark) → ((s : ℕ) → s < 2 ^ n → M' s ≡ M s) → ◌≡◌ {A = Marks (Place n)} (λ q. M (num n q)) (λ q. M' (num n q))
+on-places : (n : ℕ) (M M' : ℕ → Known) → ((s : ℕ) → s < 2 ^ n → M' s ≡ M s) → ◌≡◌ {A = Marks (Place n)} (λ q. M (num n q)) (λ q. M' (num n q))
 on-places n M M' same = fun_ext (λ q. sym (same (num n q) (num-lt n q)))
 
 on-walk-cong :
-    (n : ℕ) (π ρ : ℕ → ℕ) (fed : Bool) (s y : ℕ) (M M' G G' : ℕ → Mark)
+    (n : ℕ) (π ρ : ℕ → ℕ) (fed : Bool) (s y : ℕ) (M M' G G' : ℕ → Known)
     → ((s : ℕ) → s < 2 ^ n → M' s ≡ M s)
     → ((s : ℕ) → s < 2 ^ n → G' s ≡ G s)
     → OnWalk n π ρ fed s y M G
@@ -45,25 +47,25 @@ on-walk-cong n π ρ fed s y M M' G G' first last a =
     }
 
 -- the unset switches of a block's first stage
-unfoldable pub unset_in : ℕ → ℕ → List ℕ → ℕ
+unfoldable pub unset_in : ℕ → ℕ → List Mark → ℕ
 unset_in e b marks = count_unset (marks_at (Butterfly e) b marks) (2 ^ e)
 
 -- a block's switch among those of its stage
-at_row : (c : Stage) (b s : ℕ) (marks : List ℕ) → get_or marks (row c + b + s) 0 ≡ get_or marks (row c + (b + s)) 0
-at_row c b s marks = let q : row c + b + s ≡ row c + (b + s) = omega arith in ap (λ (i : ℕ). get_or marks i 0) q
+at_row : (c : Stage) (b s : ℕ) (marks : List Mark) → get_or marks (row c + b + s) Swaps ≡ get_or marks (row c + (b + s)) Swaps
+at_row c b s marks = let q : row c + b + s ≡ row c + (b + s) = omega arith in ap (λ (i : ℕ). get_or marks i Swaps) q
 
 pub kept_at :
-    (In : Stage → ℕ → Type 0) (c : Stage) (b s : ℕ) (marks marks' : List ℕ)
+    (In : Stage → ℕ → Type 0) (c : Stage) (b s : ℕ) (marks marks' : List Mark)
     → Kept In marks marks'
     → exponent c < 6
     → b + s < 32
     → ¬ In c (b + s)
-    → get_or marks' (row c + b + s) 0 ≡ get_or marks (row c + b + s) 0
+    → get_or marks' (row c + b + s) Swaps ≡ get_or marks (row c + b + s) Swaps
 kept_at In c b s marks marks' kept he hs out =
     at_row c b s marks' ∙ kept c (b + s) he hs out ∙ sym (at_row c b s marks)
 
-kept_trans :
-    (In : Stage → ℕ → Type 0) (marks marks' marks'' : List ℕ)
+pub kept_trans :
+    (In : Stage → ℕ → Type 0) (marks marks' marks'' : List Mark)
     → Kept In marks marks'
     → Kept In marks' marks''
     → Kept In marks marks''
@@ -72,7 +74,7 @@ kept_trans In marks marks' marks'' k l c i he hi out = l c i he hi out ∙ k c i
 module _ (e b : ℕ) (f : BlockFits e b) where
   -- a mark of one outer stage leaves the other as it is
   marked-beside :
-      (c d : Stage) (s : ℕ) (v : Bool) (marks marks' : List ℕ)
+      (c d : Stage) (s : ℕ) (v : Bool) (marks marks' : List Mark)
       → exponent d ≡ e
       → ¬ (d ≡ c)
       → MarksSet e b c s v marks marks'
@@ -86,7 +88,7 @@ module _ (e b : ℕ) (f : BlockFits e b) where
 
   -- and all but the outer stages
   marked-kept :
-      (c : Stage) (s : ℕ) (v : Bool) (marks marks' : List ℕ)
+      (c : Stage) (s : ℕ) (v : Bool) (marks marks' : List Mark)
       → exponent c ≡ e
       → s < 2 ^ e
       → MarksSet e b c s v marks marks'
@@ -106,7 +108,7 @@ module _ (e b : ℕ) (to from : List ℕ) where
   ρ = place_in from b
 
   -- the last switch of bit y, in the place p that takes it
-  module _ (s y : ℕ) (marks marks' : List ℕ) (at : AtLast e b to from s y marks) where
+  module _ (s y : ℕ) (marks : List Mark) (at : AtLast e b to from s y marks) where
     pub last_bit : y < 2 ^ suc e
     last_bit = at_small e π ρ at.perm s y (marks_at (Butterfly e) b marks) (marks_at (Inverse e) b marks) at.walk
 
@@ -115,6 +117,7 @@ module _ (e b : ℕ) (to from : List ℕ) where
 
     -- p is that place, o the other one of its switch, x the bit there, and w the first switch of x
     module _
+        (marks' : List Mark)
         {p o x w : ℕ}
         (pq : p ≡ ρ y)
         (stored : MarksSet e b (Inverse e) (p % 2 ^ e) (not (leb (2 ^ e) p)) marks marks')
@@ -181,7 +184,7 @@ module _ (e b : ℕ) (to from : List ℕ) where
   -- the first switch of bit x
   module _
       (s x : ℕ)
-      (marks marks' : List ℕ)
+      (marks marks' : List Mark)
       (at : AtFirst e b to from s x marks)
       (m : MarksSet e b (Butterfly e) (x % 2 ^ e) (leb (2 ^ e) x) marks marks')
     where
@@ -227,8 +230,8 @@ module _ (e b : ℕ) (to from : List ℕ) where
           at.walk ne)
 
   -- a switch that is settled already, and one that passes
-  module _ (s : ℕ) (marks : List ℕ) (f : BlockFits e b) (l : s < 2 ^ e) (settled : Settled e b to from s marks) where
-    pub visit-skip : get_or marks (32 * e + b + s) 0 ≢ 1 → Stepped e b to from (suc s) marks marks
+  module _ (s : ℕ) (marks : List Mark) (f : BlockFits e b) (l : s < 2 ^ e) (settled : Settled e b to from s marks) where
+    pub visit-skip : get_or marks (32 * e + b + s) Swaps ≢ Unset → Stepped e b to from (suc s) marks marks
     visit-skip ne =
         record {
           settled =
@@ -236,19 +239,15 @@ module _ (e b : ℕ) (to from : List ℕ) where
                 long = settled.long;
                 perm = settled.perm;
                 done =
-                    done-skip e π ρ settled.perm s (mark_swaps (get_or marks (32 * e + b + s) 0))
+                    done-skip e π ρ settled.perm s (mark_swaps (get_or marks (32 * e + b + s) Swaps))
                     (marks_at (Butterfly e) b marks) (marks_at (Inverse e) b marks) l settled.done
-                    (mark_set (get_or marks (32 * e + b + s) 0) ne);
+                    (mark_set (get_or marks (32 * e + b + s) Swaps) ne);
               };
           kept = λ c i he hi out. refl;
         }
 
-    module _ (marks' : List ℕ) (m : MarksSet e b (Butterfly e) (s % 2 ^ e) (leb (2 ^ e) s) marks marks') where
-      pub visit-kept : Kept (InOuter e b) marks marks'
-      visit-kept =
-          marked-kept e b f (Butterfly e) (s % 2 ^ e) (leb (2 ^ e) s) marks marks' refl (mod-lt s (pow_pos e)) m
-
-      pub visit-last : {h : ℕ} → get_or marks (32 * e + b + s) 0 ≡ 1 → h ≡ 2 ^ e → AtLast e b to from s (h + s) marks'
+    module _ (marks' : List Mark) (m : MarksSet e b (Butterfly e) (s % 2 ^ e) (leb (2 ^ e) s) marks marks') where
+      pub visit-last : {h : ℕ} → get_or marks (32 * e + b + s) Swaps ≡ Unset → h ≡ 2 ^ e → AtLast e b to from s (h + s) marks'
       visit-last {h} q hq =
           record {
             long = m.long ∙ settled.long;
@@ -264,12 +263,12 @@ module _ (e b : ℕ) (to from : List ℕ) where
                 (marked-beside e b f (Butterfly e) (Inverse e) (s % 2 ^ e) (leb (2 ^ e) s) marks marks' refl
                 (λ q. apart (sym q)) m)
                 (at-start e π ρ settled.perm s (marks_at (Butterfly e) b marks) (marks_at (Inverse e) b marks)
-                (marks_at (Butterfly e) b marks') l settled.done (mark-unset (get_or marks (32 * e + b + s) 0) q)
+                (marks_at (Butterfly e) b marks') l settled.done (ap mark_of q)
                 (rw (mod-eq_of_lt l, lt-leb (2 ^ e) s l) at m.sets)));
           }
 
   -- no loop is settled yet
-  pub settle-start : (marks : List ℕ) → Routable e b to from marks → Settled e b to from 0 marks
+  pub settle-start : (marks : List Mark) → Routable e b to from marks → Settled e b to from 0 marks
   settle-start marks r =
       record {
         long = r.long;
@@ -286,7 +285,7 @@ module _ (e b : ℕ) (to from : List ℕ) where
           ∙ r.fresh c (b + s) (record { inner = omega arith; low = omega arith; high = omega arith })
 
   pub stepped-after :
-      (k : ℕ) (marks marks' marks'' : List ℕ)
+      (k : ℕ) (marks marks' marks'' : List Mark)
       → Kept (InOuter e b) marks marks'
       → Stepped e b to from k marks' marks''
       → Stepped e b to from k marks marks''

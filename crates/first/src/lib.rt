@@ -1,15 +1,14 @@
 // The first controls of a butterfly followed by an inverse, for any permutation (paper 01, 'Finder').
 #![tactic(auto)]
 
-ghost use Rattle.std.specs.Prelude.{◌≡◌, not, cond, suc, ◌+◌, ◌*◌, ◌%◌, ◌^◌, ◌≤◌, ◌<◌, leb, length};
+ghost use Rattle.std.specs.Prelude.{◌≡◌, not, suc, ◌+◌, ◌*◌, ◌%◌, ◌^◌, ◌≤◌, ◌<◌, leb, length};
 ghost use Rattle.network.specs.Calls.{six};
-ghost use Rattle.routing.specs.Place.{weight};
 ghost use Rattle.routing.specs.Marks.{set};
 ghost use Rattle.routing.specs.Stages.{Butterfly, Inverse};
 ghost use Rattle.routing.specs.Level.{other};
 ghost use Rattle.routing.specs.Lists.{ListPermutes, word_of, words_of, first_words};
-ghost use Rattle.first.specs.Marks.{mark_of, swaps_from, controls_in, BlockFits, MarksSet};
-ghost use Rattle.first.specs.Blocks.{place_in, Settled, AtLast, AtFirst, Stepped, Halved, Peeled, Routable, BlockRouted, Placed};
+ghost use Rattle.first.specs.Marks.{mark_of, mark_swaps, swaps_from, controls_in, BlockFits, MarksSet};
+ghost use Rattle.first.specs.Blocks.{place_in, Settled, AtLast, Stepped, Halved, Peeled, Routable, BlockRouted, Placed};
 
 // The stages of both networks in the direction of travel.
 #[derive(Clone, Copy)]
@@ -18,14 +17,29 @@ pub struct Stages {
     pub inverse: [u32; 6],
 }
 
-// A block (e, b) of the network has outer stages of distance 2^e: its switches there are number b to b + 2^e - 1, its places begin at 2b.
-// The mark of switch s stands at 32e + s for the butterfly's stage of distance 2^e, and at 192 + 32e + s for the inverse's.
-// Its low bit is the control bit: one passes, zero swaps. A switch that is not settled yet passes.
-const UNSET: u8 = 1;
+// What is known of a switch. One that is not settled yet passes. (`Swaps` stands first: specs read it beyond the end of a list, and the control
+// bit is then whether the tag is not 0.)
+#[derive(Clone, Copy, PartialEq, Eq)]
+enum Mark {
+    Swaps,
+    Passes,
+    Unset,
+}
 
-const SWAPS: u8 = 2;
+impl Mark {
+    // The mark of a settled switch.
+    fn settled(swap: bool) -> Mark
+        ensures { mark_of result ≡ set swap }
+    {
+        if swap { Mark::Swaps } else { Mark::Passes }
+    }
 
-const PASSES: u8 = 3;
+    fn swaps(self) -> bool
+        ensures { result ≡ mark_swaps self }
+    {
+        self == Mark::Swaps
+    }
+}
 
 // internal: an exponent below 6. Two to its power.
 fn power(e: usize) -> usize
@@ -35,239 +49,220 @@ fn power(e: usize) -> usize
     1 << e
 }
 
-fn wide(x: u8) -> usize
-    ensures { result ≡ x }
-{
-    x as usize
+// A block of the network. Its outer stages have distance 2^exponent: its switches there are number `first` to first + 2^exponent - 1, its
+// places begin at 2 * first.
+#[derive(Clone, Copy)]
+struct Block {
+    exponent: usize,
+    first: usize,
+    ghost fits: { BlockFits exponent first },
 }
 
-// The mark of a settled switch.
-fn mark(swap: bool) -> u8
-    ensures { mark_of result ≡ set swap }
-{
-    if swap {
-        return SWAPS;
+impl Block {
+    // The number of its switches in a stage.
+    fn half(self) -> usize
+        ensures { (result ≡ 2 ^ self.exponent) × (0 < result) × (result ≤ 32) }
+    {
+        power(self.exponent)
     }
-    PASSES
-}
 
-// internal: an exponent below 6. The switch of a bit or place in a block.
-fn switch_of(e: usize, x: usize) -> usize
-    requires { e < 6 }
-    ensures { (result ≡ x % 2 ^ e) × (result < 2 ^ e) }
-{
-    x % power(e)
-}
-
-// internal: an exponent below 6, and a bit or place of the block. The other one of its switch.
-fn other_of(e: usize, x: usize) -> usize
-    requires { (e < 6) × (x < 2 ^ suc e) }
-    ensures { result ≡ other e x }
-{
-    (x + power(e)) % (2 * power(e))
-}
-
-// internal: an entry of a block.
-fn entry_of(entries: &[u8; 64], b: usize, p: usize) -> usize
-    requires { 2 * b + p < 64 }
-    ensures { result ≡ place_in entries.now b p }
-{
-    wide(entries[2 * b + p])
-}
-
-// internal: a block, and a place of it that is fed from the upper half. That settles its last switch.
-fn mark_last(marks: &mut [u8; 384], e: usize, b: usize, place: usize)
-    requires { (BlockFits e b) × (length marks.old ≡ 384) }
-    ensures { MarksSet e b (Inverse e) (place % 2 ^ e) (not (leb (2 ^ e) place)) marks.old marks.new }
-{
-    marks[192 + 32 * e + b + switch_of(e, place)] = mark(place < power(e));
-}
-
-// internal: a block, and a bit that goes to its lower half. That settles its first switch.
-fn mark_first(marks: &mut [u8; 384], e: usize, b: usize, bit: usize)
-    requires { (BlockFits e b) × (length marks.old ≡ 384) }
-    ensures { MarksSet e b (Butterfly e) (bit % 2 ^ e) (leb (2 ^ e) bit) marks.old marks.new }
-{
-    marks[32 * e + b + switch_of(e, bit)] = mark(power(e) <= bit);
-}
-
-// internal: round the loop of switch `start`, at a bit that goes to the upper half. That settles the last switch of its place; the bit that
-// takes the other place there goes to the lower half, unless the loop is closed.
-#[cycle(first_step_last_step)]
-fn last_step(
-    to: &[u8; 64],
-    from: &[u8; 64],
-    marks: &mut [u8; 384],
-    e: usize,
-    b: usize,
-    start: usize,
-    bit: usize,
-)
-    requires { AtLast e b to.now from.now start bit marks.old }
-    ensures { Stepped e b to.now from.now (suc start) marks.old marks.new }
-{
-    let place = entry_of(from, b, bit);
-    mark_last(marks, e, b, place);
-    let next = entry_of(to, b, other_of(e, place));
-    if switch_of(e, next) == start {
-        return;
+    // The switch of a bit or place.
+    fn switch_of(self, x: usize) -> usize
+        ensures { (result ≡ x % 2 ^ self.exponent) × (result < 2 ^ self.exponent) }
+    {
+        x % self.half()
     }
-    first_step(to, from, marks, e, b, start, next)
-}
 
-// internal: round the loop of switch `start`, at a bit that goes to the lower half. That settles its first switch; the other bit there
-// goes to the upper half.
-#[cycle(first_step_last_step)]
-fn first_step(
-    to: &[u8; 64],
-    from: &[u8; 64],
-    marks: &mut [u8; 384],
-    e: usize,
-    b: usize,
-    start: usize,
-    bit: usize,
-)
-    requires { AtFirst e b to.now from.now start bit marks.old }
-    ensures { Stepped e b to.now from.now (suc start) marks.old marks.new }
-{
-    mark_first(marks, e, b, bit);
-    last_step(to, from, marks, e, b, start, other_of(e, bit))
-}
-
-// internal: a block, and a switch of its outer stages with those below it settled. It passes if it is not settled yet.
-fn visit(to: &[u8; 64], from: &[u8; 64], marks: &mut [u8; 384], e: usize, b: usize, s: usize)
-    requires { (BlockFits e b) × (s < 2 ^ e) × (Settled e b to.now from.now s marks.old) }
-    ensures { Stepped e b to.now from.now (suc s) marks.old marks.new }
-{
-    if marks[32 * e + b + s] != UNSET {
-        return;
+    // internal: a bit or place of the block. The other one of its switch.
+    fn other_of(self, x: usize) -> usize
+        requires { x < 2 ^ suc self.exponent }
+        ensures { result ≡ other self.exponent x }
+    {
+        (x + self.half()) % (2 * self.half())
     }
-    mark_first(marks, e, b, s);
-    last_step(to, from, marks, e, b, s, power(e) + s)
-}
 
-// internal: a block with no switch settled. Its outer stages.
-fn settle(to: &[u8; 64], from: &[u8; 64], marks: &mut [u8; 384], e: usize, b: usize)
-    requires { Routable e b to.now from.now marks.old }
-    ensures { Stepped e b to.now from.now (2 ^ e) marks.old marks.new }
-{
-    let half = power(e);
-    let mut s: usize = 0;
-    while s < half {
-        visit(to, from, marks, e, b, s);
-        s += 1;
+    // internal: a bit or place of the block. Its entry.
+    fn entry_of(self, entries: &[u8; 64], x: usize) -> usize
+        requires { x < 2 ^ suc self.exponent }
+        ensures { result ≡ place_in entries.now self.first x }
+    {
+        usize::from(entries[2 * self.first + x])
     }
 }
 
-// The first number or the second.
-fn pick(first: bool, x: u8, y: u8) -> u8
-    ensures { result ≡ cond first x y }
-{
-    if first {
-        return x;
+// The marks of all switches: that of switch s stands at 32e + s for the butterfly's stage of distance 2^e, and at 192 + 32e + s for the
+// inverse's. (One array, as specs/Marks has it: `row`.)
+#[derive(Drop)]
+struct Marks {
+    switches: [Mark; 384],
+}
+
+// A permutation and its inverse, or those of the blocks that are left.
+#[derive(Drop)]
+struct Permutation {
+    to: [u8; 64],
+    from: [u8; 64],
+}
+
+impl Marks {
+    // internal: a place that is fed from the upper half. That settles its last switch. (One function for this and the next would be given
+    // the row and which half swaps, which is all that either says.)
+    fn mark_last(&mut self, block: Block, place: usize)
+        ensures { MarksSet block.exponent block.first (Inverse block.exponent) (place % 2 ^ block.exponent) (not (leb (2 ^ block.exponent) place)) self.old.switches self.new.switches }
+    {
+        let mark = Mark::settled(place < block.half());
+        self.switches[192 + 32 * block.exponent + block.first + block.switch_of(place)] = mark;
     }
-    y
-}
 
-// internal: a block, a switch of its outer stages, and the half of an entry there. The entry within its own half. Both are read, so that
-// no branch hangs on the mark.
-fn half_entry(entries: &[u8; 64], e: usize, b: usize, q: usize, upper: bool) -> u8
-    requires { (BlockFits e b) × (q < 2 ^ e) }
-    ensures { result ≡ place_in entries.now b (weight upper e + q) % 2 ^ e }
-{
-    let half = power(e);
-    let low = entries[2 * b + q];
-    let high = entries[2 * b + q + half];
-    pick(upper, high, low) % (half as u8)
-}
+    // internal: a bit that goes to the lower half. That settles its first switch.
+    fn mark_first(&mut self, block: Block, bit: usize)
+        ensures { MarksSet block.exponent block.first (Butterfly block.exponent) (bit % 2 ^ block.exponent) (leb (2 ^ block.exponent) bit) self.old.switches self.new.switches }
+    {
+        let mark = Mark::settled(block.half() <= bit);
+        self.switches[32 * block.exponent + block.first + block.switch_of(bit)] = mark;
+    }
 
-// internal: a block, and the marks of one of its outer stages. The permutation between the outer stages: each half by itself.
-fn halve(entries: &mut [u8; 64], marks: &[u8; 384], at: usize, e: usize, b: usize)
-    requires { (BlockFits e b) × (at + 2 ^ e ≤ 384) × (length entries.old ≡ 64) }
-    ensures { Halved e b (swaps_from marks.now at) entries.old entries.new }
-{
-    let half = power(e);
-    let mut q: usize = 0;
-    while q < half {
-        let swap = marks[at + q] % 2 == 0;
-        let lower = half_entry(entries, e, b, q, swap);
-        let upper = half_entry(entries, e, b, q, !swap);
-        entries[2 * b + q] = lower;
-        entries[2 * b + q + half] = upper;
-        q += 1;
+    // internal: round the loop of switch `start`, from a bit that goes to the upper half. Each turn settles the last switch of the bit's
+    // place; the bit that takes the other place there goes to the lower half, which settles its first switch, unless the loop is closed; the
+    // other bit there goes to the upper half.
+    fn walk(&mut self, permutation: &Permutation, block: Block, start: usize, mut bit: usize)
+        requires { AtLast block.exponent block.first permutation.now.to permutation.now.from start bit self.old.switches }
+        ensures { Stepped block.exponent block.first permutation.now.to permutation.now.from (suc start) self.old.switches self.new.switches }
+    {
+        loop {
+            let place = block.entry_of(&permutation.from, bit);
+            self.mark_last(block, place);
+            let next = block.entry_of(&permutation.to, block.other_of(place));
+            if block.switch_of(next) == start {
+                return;
+            }
+            self.mark_first(block, next);
+            bit = block.other_of(next);
+        }
+    }
+
+    // internal: a switch of the outer stages with those below it settled. It passes if it is not settled yet.
+    fn visit(&mut self, permutation: &Permutation, block: Block, s: usize)
+        requires { (s < 2 ^ block.exponent) × (Settled block.exponent block.first permutation.now.to permutation.now.from s self.old.switches) }
+        ensures { Stepped block.exponent block.first permutation.now.to permutation.now.from (suc s) self.old.switches self.new.switches }
+    {
+        if self.switches[32 * block.exponent + block.first + s] == Mark::Unset {
+            self.mark_first(block, s);
+            self.walk(permutation, block, s, block.half() + s);
+        }
+    }
+
+    // internal: a block with no switch settled. Its outer stages.
+    fn settle(&mut self, permutation: &Permutation, block: Block)
+        requires { Routable block.exponent block.first permutation.now.to permutation.now.from self.old.switches }
+        ensures { Stepped block.exponent block.first permutation.now.to permutation.now.from (2 ^ block.exponent) self.old.switches self.new.switches }
+    {
+        let half = block.half();
+        for s in 0..half {
+            self.visit(permutation, block, s);
+        }
+    }
+
+    // internal: the marks of one of the block's outer stages. The permutation between the outer stages: each half by itself. Both entries of a
+    // switch are read first, so that no branch hangs on the mark.
+    fn halve(&self, entries: &mut [u8; 64], at: usize, block: Block)
+        requires { at + 2 ^ block.exponent ≤ 384 }
+        ensures { Halved block.exponent block.first (swaps_from self.now.switches at) entries.old entries.new }
+    {
+        let half = block.half();
+        for q in 0..half {
+            let swap = self.switches[at + q].swaps();
+            let low = entries[2 * block.first + q];
+            let high = entries[2 * block.first + q + half];
+            let (lower, upper) = if swap { (high, low) } else { (low, high) };
+            entries[2 * block.first + q] = lower % (half as u8);
+            entries[2 * block.first + q + half] = upper % (half as u8);
+        }
+    }
+
+    // internal: a block with no switch settled. Its outer stages, and the permutation between them. It has a frame of its own, so that a
+    // level of `route` keeps little on the stack.
+    #[inline(never)]
+    fn peel(&mut self, permutation: &mut Permutation, block: Block)
+        requires { Routable block.exponent block.first permutation.old.to permutation.old.from self.old.switches }
+        ensures { Peeled block.exponent block.first permutation.old.to permutation.old.from self.old.switches permutation.new.to permutation.new.from self.new.switches }
+    {
+        self.settle(permutation, block);
+        self.halve(
+            &mut permutation.to,
+            192 + 32 * block.exponent + block.first,
+            block,
+        );
+        self.halve(
+            &mut permutation.from,
+            32 * block.exponent + block.first,
+            block,
+        );
+    }
+
+    // internal: a block with no switch settled. Its outer stages, then each half, which has one stage less on either side.
+    fn route(&mut self, permutation: &mut Permutation, block: Block)
+        requires { Routable block.exponent block.first permutation.old.to permutation.old.from self.old.switches }
+        ensures { BlockRouted block.exponent block.first permutation.old.to permutation.old.from self.old.switches permutation.new.to permutation.new.from self.new.switches }
+    {
+        self.peel(permutation, block);
+        if block.exponent == 0 {
+            return;
+        }
+        let exponent = block.exponent - 1;
+        let first = block.first;
+        self.route(permutation, Block { exponent, first });
+        let first = block.first + power(exponent);
+        self.route(permutation, Block { exponent, first })
+    }
+
+    // internal: at most 32 marks. The control bits of a stage as a word.
+    fn word(&self, at: usize, count: usize) -> u32
+        requires { (count ≤ 32) × (at + count ≤ 384) }
+        ensures { result ≡ word_of count (swaps_from self.now.switches at) }
+    {
+        let mut word = 0;
+        for s in (0..count).rev() {
+            word = 2 * word + u32::from(!self.switches[at + s].swaps());
+        }
+        word
+    }
+
+    // internal: a logarithm of 1 to 6. The words of all stages.
+    fn words(&self, log: usize) -> Stages
+        requires { (0 < log) × (log ≤ 6) }
+        ensures { (result.butterfly ≡ six (words_of log (controls_in 0 self.now.switches)).butterfly) × (result.inverse ≡ six (words_of log (controls_in 0 self.now.switches)).inverse) }
+    {
+        let count = power(log - 1);
+        let mut butterfly = [0u32; 6];
+        let mut inverse = [0u32; 6];
+        for i in 0..log {
+            butterfly[i] = self.word(32 * (log - 1 - i), count);
+            inverse[i] = self.word(192 + 32 * i, count);
+        }
+        Stages { butterfly, inverse }
     }
 }
 
-// internal: a block with no switch settled. Its outer stages, and the permutation between them.
-fn peel(to: &mut [u8; 64], from: &mut [u8; 64], marks: &mut [u8; 384], e: usize, b: usize)
-    requires { Routable e b to.old from.old marks.old }
-    ensures { Peeled e b to.old from.old marks.old to.new from.new marks.new }
-{
-    settle(to, from, marks, e, b);
-    halve(to, marks, 192 + 32 * e + b, e, b);
-    halve(from, marks, 32 * e + b, e, b);
-}
-
-// internal: a block with no switch settled. Its outer stages, then each half, which has one stage less on either side.
-fn route(to: &mut [u8; 64], from: &mut [u8; 64], marks: &mut [u8; 384], e: usize, b: usize)
-    requires { Routable e b to.old from.old marks.old }
-    ensures { BlockRouted e b to.old from.old marks.old to.new from.new marks.new }
-{
-    peel(to, from, marks, e, b);
-    if e == 0 {
-        return;
-    }
-    let left = e - 1;
-    route(to, from, marks, left, b);
-    route(to, from, marks, left, b + power(left));
-}
-
-// internal: at most 32 marks. The control bits of a stage as a word.
-fn word(marks: &[u8; 384], at: usize, count: usize) -> u32
-    requires { (count ≤ 32) × (at + count ≤ 384) }
-    ensures { result ≡ word_of count (swaps_from marks.now at) }
-{
-    let mut out: usize = 0;
-    let mut s: usize = 0;
-    while s < count {
-        out += wide(marks[at + s] % 2) << s;
-        s += 1;
-    }
-    out as u32
-}
-
-// internal: a logarithm of 1 to 6. The words of all stages.
-fn words(marks: &[u8; 384], log: usize) -> Stages
-    requires { (0 < log) × (log ≤ 6) }
-    ensures { (result.butterfly ≡ six (words_of log (controls_in 0 marks.now)).butterfly) × (result.inverse ≡ six (words_of log (controls_in 0 marks.now)).inverse) }
-{
-    let count = power(log - 1);
-    let mut butterfly = [0u32; 6];
-    let mut inverse = [0u32; 6];
-    let mut i: usize = 0;
-    while i < log {
-        butterfly[i] = word(marks, 32 * (log - 1 - i), count);
-        inverse[i] = word(marks, 192 + 32 * i, count);
-        i += 1;
-    }
-    Stages { butterfly, inverse }
-}
-
-// internal: a permutation of at most 64 places. It and its inverse.
-fn take_entries(to: &mut [u8; 64], from: &mut [u8; 64], entries: &[u8])
-    requires { (length entries.now ≤ 64) × (ListPermutes (length entries.now) entries.now) × (length to.old ≡ 64) × (length from.old ≡ 64) }
-    ensures { Placed (length entries.now) entries.now to.new from.new }
-{
-    let mut p: usize = 0;
-    while p < entries.len() {
-        let x = entries[p];
-        to[p] = x;
-        from[wide(x)] = p as u8;
-        p += 1;
+impl Permutation {
+    // internal: a permutation of at most 64 places. It and its inverse.
+    fn of(entries: &[u8]) -> Permutation
+        requires { (length entries.now ≤ 64) × (ListPermutes (length entries.now) entries.now) }
+        ensures { Placed (length entries.now) entries.now result.to result.from }
+    {
+        let mut permutation = Permutation {
+            to: [0; 64],
+            from: [0; 64],
+        };
+        for (place, entry) in entries.iter().enumerate() {
+            permutation.to[place] = *entry;
+            permutation.from[usize::from(*entry)] = place as u8;
+        }
+        permutation
     }
 }
 
-// internal: a logarithm of at most 6, and a permutation of that width. Its first controls.
+// internal: a logarithm of at most 6, and a permutation of that width. Its first controls. (Two parameters: its signature stands.)
 pub fn controls(log: usize, entries: &[u8]) -> Stages
     requires { (log ≤ 6) × ListPermutes (2 ^ log) entries.now }
     ensures { (result.butterfly ≡ six (first_words log entries.now).butterfly) × (result.inverse ≡ six (first_words log entries.now).inverse) }
@@ -278,10 +273,16 @@ pub fn controls(log: usize, entries: &[u8]) -> Stages
             inverse: [0u32; 6],
         };
     }
-    let mut marks = [UNSET; 384];
-    let mut to = [0u8; 64];
-    let mut from = [0u8; 64];
-    take_entries(&mut to, &mut from, entries);
-    route(&mut to, &mut from, &mut marks, log - 1, 0);
-    words(&marks, log)
+    let mut marks = Marks {
+        switches: [Mark::Unset; 384],
+    };
+    let mut permutation = Permutation::of(entries);
+    marks.route(
+        &mut permutation,
+        Block {
+            exponent: log - 1,
+            first: 0,
+        },
+    );
+    marks.words(log)
 }

@@ -2,12 +2,11 @@
 use mathlib.Core.Path.{◌≡◌, refl, ap}
 use mathlib.Core.List.{List, [], ◌∷◌}
 use Prim.Native.Nat.{ℕ, ◌+◌, ◌-◌, ◌<◌, ◌≤◌}
-use native.Mathlib.Omega.{arith}
 use Rattle.unit.specs.declared.Registers.{Registers}
 use Rattle.unit.specs.Bank.{fresh}
 use Rattle.unit.specs.Operation.{cycles_of, Operation, step_by}
 use Rattle.runs.specs.declared.Turn.{Turn}
-use Rattle.runs.proofs.Runs.{Going, going-none, going_next, going-spent, going_done, ran-within}
+use Rattle.runs.proofs.Runs.{Going, going-none, going_next, going-spent, going_done}
 use Rattle.frame.specs.Offers.{counted_of}
 
 -- after n operations, with `left` left of the budget and `rest` still to come: some registers would be there
@@ -28,7 +27,3 @@ module _ {os : List Operation} {budget left n : ℕ} where
 
   pub counting-done : Counting os budget left n [] → ◌≡◌ {A = Turn} (record { ran = n; cycles = budget - left }) (counted_of os budget)
   counting-done h = ap (λ (t : Turn × Registers). t.0) (going_done h.going)
-
--- no more is used than there is
-pub counted-within : (os : List Operation) (budget : ℕ) {t : Turn} → t ≡ counted_of os budget → t.cycles ≤ budget
-counted-within os budget e = let w = ran-within budget os in let c = ap (λ (t : Turn). t.cycles) e in omega (arith, w, c)

@@ -1,22 +1,18 @@
 -- The lowest refusal over all lists, from the lowest of each. Assumes nothing.
-use mathlib.Core.Path.{◌≡◌, refl, sym, ◌∙◌, ap}
-use mathlib.Core.Logic.{◌⊎◌, inl, inr}
-use mathlib.Core.Bool.{Bool, true, false, cond, ◌||◌}
-use mathlib.Core.List.{List, [], ◌∷◌, map}
-use Prim.Native.Nat.{ℕ, ◌<◌, ◌≤◌}
-use native.Mathlib.Omega.{arith}
+use Rattle.std.proofs.Common.{append_assoc, append-nil, ◌≡◌, refl, sym, ◌∙◌, ap, subst, ◌⊎◌, inl, inr, Bool, true, false, cond, ◌||◌, List, [], ◌∷◌, ◌++◌, map, ℕ, zero, suc, ◌<◌, ◌≤◌, arith, eqb, leb, ltb, length, get_or, sum, All, Bor}
 use native.Mathlib.Decide.{ℕ_discrete}
-use lib.Dec.{eqb, leb, ltb}
 use borrow.Author.Tests.{eq-eqb, ne_eqb, le-leb, lt-leb, ltb-false}
 use Rattle.bits.specs.Refusal.{lowest, Rising}
 use Rattle.bits.proofs.Refusals.{lowest-more}
-use Rattle.unit.specs.declared.Registers.{Registers}
-use Rattle.unit.specs.Bank.{fresh, bank_of}
-use Rattle.runs.specs.declared.Marks.{Marks}
-use Rattle.runs.specs.Run.{run_conditions, run_refusal, marks_of, with_marks}
+use Rattle.unit.specs.declared.Bank.{Bank}
+use Rattle.unit.specs.Bank.{fresh_bank}
+use Rattle.runs.specs.Run.{run_conditions, run_refusal}
 use Rattle.runs.proofs.OperationLists.{run-within}
-use Rattle.frame.specs.Frame.{Brought, brought_by, other_waits, applying, applying_to_some, guaranteed, list_numbers, lists_conditions, frame_refusal}
-use Rattle.frame.specs.Offers.{Whole, lower_of, sum_of_four, sum_conditions}
+use Rattle.frame.specs.Frame.{Brought, brought_from, brought_by, other_waits, applying, applying_to_some, guaranteed, list_numbers, lists_conditions, frame_refusal}
+use Rattle.frame.specs.Offers.{Whole, lower_of, sum_conditions}
+use Rattle.frame.proofs.Offering.{four-are, sum-of-four, list-at}
+use Rattle.std.proofs.Math.Bool.{or-false, or_assoc}
+use Rattle.std.proofs.lemmas.List.Elements.{All-from_get_or}
 
 -- numbers with the condition of each
 abbrev asking : (ℕ → Bool) → List ℕ → List (ℕ × Bool)
@@ -69,23 +65,18 @@ unfolding run_refusal
 lists-more c cs e f =
     (λ i. lower_of (e i) (f i)) ∙ lower-either (λ n. applying n (run_conditions (other_waits c) c.bytes)) (λ n. applying_to_some n cs) 0 list_numbers (omega arith) (omega arith)
 
--- the last
-pub lists-one : (c : Brought) {r : ℕ} → r ≡ run_refusal (other_waits c) c.bytes → r ≡ lowest (lists_conditions (c ∷ []))
-lists-one c {r} e = lower-none r ∙ lists-more c [] e refl
-  where
-    lower-none : (r : ℕ) → r ≡ lower_of r 0
-    lower-none r = by_cases (ℕ_discrete r 0)
-      where
-        by_cases : Dec (r ≡ 0) → r ≡ lower_of r 0
-        by_cases (yes z) = rw (eq-eqb r 0 z) z
-        by_cases (no n) = rw (ne_eqb r 0 n)
+-- one channel more at the end
+or-last : (n : ℕ) (cs : List Brought) (c : Brought) → (applying_to_some n cs || applying n (run_conditions (other_waits c) c.bytes)) ≡ applying_to_some n (cs ++ (c ∷ []))
+or-last n [] c = sym (or-false (applying n (run_conditions (other_waits c) c.bytes)))
+or-last n (b ∷ cs) c =
+    or_assoc (applying n (run_conditions (other_waits b) b.bytes)) (applying_to_some n cs) (applying n (run_conditions (other_waits c) c.bytes))
+    ∙ ap (λ (t : Bool). applying n (run_conditions (other_waits b) b.bytes) || t) (or-last n cs c)
 
--- four of them
-pub lists-four : (c0 c1 c2 c3 : Brought) {r0 r1 r2 r3 : ℕ} → r0 ≡ run_refusal (other_waits c0) c0.bytes → r1 ≡ run_refusal (other_waits c1) c1.bytes
-    → r2 ≡ run_refusal (other_waits c2) c2.bytes → r3 ≡ run_refusal (other_waits c3) c3.bytes → {s t u : ℕ} → s ≡ lower_of r2 r3 → t ≡ lower_of r1 s → u ≡ lower_of r0 t
-    → u ≡ lowest (lists_conditions (c0 ∷ c1 ∷ c2 ∷ c3 ∷ []))
-lists-four c0 c1 c2 c3 e0 e1 e2 e3 f g h =
-    h ∙ lists-more c0 (c1 ∷ c2 ∷ c3 ∷ []) e0 (g ∙ lists-more c1 (c2 ∷ c3 ∷ []) e1 (f ∙ lists-more c2 (c3 ∷ []) e2 (lists-one c3 e3)))
+pub lists-last : (c : Brought) (cs : List Brought) {r s : ℕ} → r ≡ lowest (lists_conditions cs) → s ≡ run_refusal (other_waits c) c.bytes → lower_of r s ≡ lowest (lists_conditions (cs ++ (c ∷ [])))
+unfolding run_refusal
+lists-last c cs e f =
+    (λ i. lower_of (e i) (f i)) ∙ lower-either (λ n. applying_to_some n cs) (λ n. applying n (run_conditions (other_waits c) c.bytes)) 0 list_numbers (omega arith) (omega arith)
+    ∙ (λ i. lowest ((4, or-last 4 cs c i) ∷ (7, or-last 7 cs c i) ∷ (8, or-last 8 cs c i) ∷ (14, or-last 14 cs c i) ∷ []))
 
 -- with none over all lists there is none of each
 lower-none-of : (r s : ℕ) → lower_of r s ≡ 0 → (r ≡ 0) × (s ≡ 0)
@@ -133,29 +124,72 @@ module _ (cs : List Brought) (cycles : ℕ) where
           by-test false t f = ltb-false cycles (guaranteed cs) t
       by_cases (no z) = absurd (z (rw (ne_eqb _ 0 z) at (sym split ∙ e)))
 
-module _ (k0 k1 k2 k3 : Registers) (x0 x1 x2 x3 l0 l1 l2 l3 gs : List ℕ) (cycles : ℕ) where
-  abbrev lists : List (List ℕ)
-  lists = l0 ∷ l1 ∷ l2 ∷ l3 ∷ []
+-- four channels, each by its number
+abbrev pub channel_at : List Bank → List (List ℕ) → List ℕ → ℕ → Brought
+channel_at ks ls gs n = record { bank = get_or ks n fresh_bank; bytes = get_or ls n []; guarantee = get_or gs n 0 }
 
+abbrev pub channels_at : List Bank → List (List ℕ) → List ℕ → List Brought
+channels_at ks ls gs = channel_at ks ls gs 0 ∷ channel_at ks ls gs 1 ∷ channel_at ks ls gs 2 ∷ channel_at ks ls gs 3 ∷ []
+
+pub channels-are : (ks : List Bank) (ls : List (List ℕ)) (gs : List ℕ) → length ks ≡ 4 → length ls ≡ 4 → brought_by ks ls gs ≡ channels_at ks ls gs
+channels-are ks ls gs h g = λ i. brought_by (four-are fresh_bank ks h i) (four-are [] ls g i) gs
+
+-- with no guarantees, from any number on
+unnumbered : (n m : ℕ) (ks : List Bank) (ls : List (List ℕ)) → brought_from n ks ls [] ≡ brought_from m ks ls []
+unnumbered n m [] ls = refl
+unnumbered n m (k ∷ ks) [] = refl
+unnumbered n m (k ∷ ks) (l ∷ ls) = ap (λ (cs : List Brought). record { bank = k; bytes = l; guarantee = 0 } ∷ cs) (unnumbered (suc n) (suc m) ks ls)
+
+-- the lowest refusal r over the channels before these, of all
+pub record Checked (all : List Brought) (r : ℕ) (ks : List Bank) (ls : List (List ℕ)) : Type 0 where
+  pub before : List Brought
+  pub lowest-before : r ≡ lowest (lists_conditions before)
+  pub together : before ++ brought_by ks ls [] ≡ all
+
+pub checked-next : {all : List Brought} {r : ℕ} {k : Bank} {ks : List Bank} {l : List ℕ} {ls : List (List ℕ)} → Checked all r (k ∷ ks) (l ∷ ls)
+    → {s : ℕ} → s ≡ run_refusal (other_waits (record { bank = k; bytes = l; guarantee = 0 })) l → Checked all (lower_of r s) ks ls
+checked-next {k} {ks} {l} {ls} h e =
+    let c : Brought = record { bank = k; bytes = l; guarantee = 0 } in
+    record {
+      before = h.before ++ (c ∷ []);
+      lowest-before = lists-last c h.before h.lowest-before e;
+      together = append_assoc h.before (c ∷ []) (brought_by ks ls []) ∙ ap (λ (cs : List Brought). h.before ++ (c ∷ cs)) (unnumbered 0 1 ks ls) ∙ h.together;
+    }
+
+pub checked-all : {all : List Brought} {r : ℕ} (ks : List Bank) {ls : List (List ℕ)} → length ks ≡ 0 → Checked all r ks ls → r ≡ lowest (lists_conditions all)
+checked-all [] e h = h.lowest-before ∙ ap (λ (cs : List Brought). lowest (lists_conditions cs)) (sym (append-nil h.before) ∙ h.together)
+checked-all (k ∷ ks) e h = absurd (omega (arith, e))
+
+module _ (ks : List Bank) (ls : List (List ℕ)) (gs : List ℕ) (cycles : ℕ) (four : length ks ≡ 4) (lists : length ls ≡ 4) (all : length gs ≡ 4) where
   abbrev channels : List Brought
-  channels = brought_by (bank_of k0 x0 ∷ bank_of k1 x1 ∷ bank_of k2 x2 ∷ bank_of k3 x3 ∷ []) lists gs
+  channels = brought_by ks ls gs
 
-  pub refusal-by : {m0 m1 m2 m3 : Marks} → m0 ≡ marks_of k0 → m1 ≡ marks_of k1 → m2 ≡ marks_of k2 → m3 ≡ marks_of k3
-      → {r s : ℕ} → r ≡ lowest (lists_conditions (brought_by (bank_of (with_marks fresh m0) x0 ∷ bank_of (with_marks fresh m1) x1 ∷ bank_of (with_marks fresh m2) x2 ∷ bank_of (with_marks fresh m3) x3 ∷ []) lists []))
-      → s ≡ cond (eqb r 0) (lowest (sum_conditions gs cycles)) r → s ≡ frame_refusal channels cycles
+  summed : sum gs ≡ guaranteed channels
   unfolding guaranteed
-  refusal-by e0 e1 e2 e3 {r} {s} f g =
-      let p : r ≡ lowest (lists_conditions channels) =
-      f ∙ (λ i. lowest (lists_conditions (brought_by (bank_of (with_marks fresh (e0 i)) x0 ∷ bank_of (with_marks fresh (e1 i)) x1 ∷ bank_of (with_marks fresh (e2 i)) x2 ∷ bank_of (with_marks fresh (e3 i)) x3 ∷ []) lists [])))
-      in
-      let q : sum_of_four gs ≡ guaranteed channels = omega arith in
-      g ∙ (λ i. cond (eqb (p i) 0) (cond (ltb cycles (q i)) 15 0) (p i)) ∙ sym (split channels cycles)
+  summed = rw (channels-are ks ls gs four lists) (sum-of-four gs all ∙ omega arith)
+
+  -- a frame's refusal, from that of its lists, which no guarantee changes, and that of their sum
+  pub refusal-by : {r s : ℕ} → r ≡ lowest (lists_conditions (brought_by ks ls [])) → s ≡ cond (eqb r 0) (lowest (sum_conditions gs cycles)) r → s ≡ frame_refusal channels cycles
+  refusal-by {r} {s} f g =
+      let by : List Brought → ℕ = λ cs. lowest (lists_conditions cs) in
+      let p : r ≡ by channels = f ∙ ap by (channels-are ks ls [] four lists) ∙ sym (ap by (channels-are ks ls gs four lists)) in
+      g ∙ (λ i. cond (eqb (p i) 0) (cond (ltb cycles (summed i)) 15 0) (p i)) ∙ sym (split channels cycles)
 
   -- a frame that is carried out has whole operations in each list, and guarantees that sum to no more than its cycles
-  pub frame-whole : frame_refusal channels cycles ≡ 0 → Whole l0 × Whole l1 × Whole l2 × Whole l3 × (sum_of_four gs ≤ cycles)
-  unfolding guaranteed
-  frame-whole e =
-      let a = frame-accepts channels cycles e in
-      let c = a.0 in
-      let g = a.1 in
-      (run-within _ l0 c.0, run-within _ l1 c.1.0, run-within _ l2 c.1.1.0, run-within _ l3 c.1.1.1.0, omega (arith, g))
+  pub frame-sum : frame_refusal channels cycles ≡ 0 → sum gs ≤ cycles
+  frame-sum e = let g = (frame-accepts channels cycles e).1 in omega (arith, g, summed)
+
+  pub frame-whole : frame_refusal channels cycles ≡ 0 → (n : ℕ) → n < 4 → Whole (get_or ls n [])
+  frame-whole e = by-number (subst AllAccepted (channels-are ks ls gs four lists) (frame-accepts channels cycles e).0)
+    where
+      by-number : AllAccepted (channels_at ks ls gs) → (n : ℕ) → n < 4 → Whole (get_or ls n [])
+      by-number a zero h = run-within _ (get_or ls 0 []) a.0
+      by-number a (suc zero) h = run-within _ (get_or ls 1 []) a.1.0
+      by-number a (suc (suc zero)) h = run-within _ (get_or ls 2 []) a.1.1.0
+      by-number a (suc (suc (suc zero))) h = run-within _ (get_or ls 3 []) a.1.1.1.0
+      by-number a (suc (suc (suc (suc n)))) h = absurd (omega (arith, h))
+
+-- whole operations in each list, of lists that are lent
+pub all-whole : (ls : List (Bor (List ℕ))) → length ls ≡ 4 → ((n : ℕ) → n < 4 → Whole (get_or (map (λ l. l.now) ls) n [])) → All (λ l. Whole l.now) ls
+all-whole ls h f =
+    All-from_get_or (λ (l : Bor (List ℕ)). Whole l.now) ls (record { ref_ptr = (0, 0); now = [] }) (λ n k. subst Whole (list-at ls n) (f n (omega (arith, h, k))))

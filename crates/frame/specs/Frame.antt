@@ -1,5 +1,5 @@
 -- Four channels in one frame, paper 02, Req 11. Everything here is of any number of channels. Assumes nothing.
-use Rattle.std.specs.Prelude.{ℕ, suc, ◌+◌, ◌-◌, Bool, false, not, cond, ◌&&◌, ◌||◌, List, [], ◌∷◌, ◌++◌, map, eqb, ltb, get_or, drop}
+use Rattle.std.specs.Prelude.{ℕ, suc, ◌+◌, ◌-◌, Bool, false, not, cond, ◌&&◌, ◌||◌, List, [], ◌∷◌, ◌++◌, map, eqb, ltb, get_or, drop, replicate}
 use Rattle.bits.specs.Refusal.{lowest}
 use Rattle.unit.specs.declared.Registers.{Registers}
 use Rattle.unit.specs.declared.Bank.{Bank}
@@ -86,6 +86,10 @@ frame_refusal cs cycles = lowest (frame_conditions cs cycles)
 -- "The frame answers for each channel as a run does"
 abbrev pub channel_of : Outcome → Channel
 channel_of o = record { «end» = o.«end»; ran = o.ran; cycles = o.cycles }
+
+-- what a refused frame answers: its number, zeros beside it
+abbrev pub refused_answer : ℕ → Frame
+refused_answer r = record { refusal = r; channels = replicate 4 (record { «end» = 0; ran = 0; cycles = 0 }) }
 
 -- an answer, and beside it the banks that the call leaves
 abbrev pub leaving_all : {A : Type 0} → A → List Bank → A × List Bank

@@ -2,13 +2,14 @@
 // of its turns, and ends as a run does.
 #![tactic(auto)]
 
-ghost use Rattle.std.specs.Prelude.{◌≡◌, [], ◌∷◌, cond, not, ◌&&◌, ℕ, ◌+◌, ◌-◌, ◌*◌, ◌<◌, ◌≤◌, eqb, length, get_or, set, drop, replicate};
+ghost use Rattle.std.specs.Prelude.{◌≡◌, [], ◌∷◌, ℕ, ◌+◌, ◌*◌, ◌<◌, ◌≤◌, All, length, get_or, map, sum, MatchResult};
 ghost use Rattle.bits.specs.Bit.{up_to};
-ghost use Rattle.bits.specs.Refusal.{lowest};
-ghost use Rattle.unit.specs.Bank.{fresh, with_status, bank_of, leaving};
-ghost use Rattle.runs.specs.Run.{operations_of, run_refusal, marked_by, with_marks, carried_out, is_remainder};
-ghost use Rattle.frame.specs.Frame.{brought_by, leaving_all, channel_of, lists_conditions, frame_of};
-ghost use Rattle.frame.specs.Offers.{Whole, counted_of, CountedFirst, rest_after, budget_of, budgets_by, lower_of, sum_of_four, sum_conditions, refused_statuses};
+ghost use Rattle.bits.specs.Refusal.{lowest, number_of, number_in};
+ghost use Rattle.runs.specs.Run.{operations_of, run_refusal, noted};
+ghost use Rattle.frame.specs.Frame.{brought_by, other_waits, lists_conditions, frame_refusal, channel_of, refused_answer, leaving_all, frame_of};
+ghost use Rattle.frame.specs.Offers.{Whole, counted_of, turn_at, first_of, unused_of, budget_of, budgets_by, lower_of, sum_conditions};
+
+use bits::Refusal;
 
 // How one channel was run: its end (1 done, 2 spent), the operations run and the cycles used, of both turns together; zeros in a refused frame.
 #[repr(C)]
@@ -27,405 +28,245 @@ pub struct Frame {
     pub channels: [Channel; 4],
 }
 
-// A frame's answer, and the registers of the four banks after it.
-#[derive(Clone, Copy)]
-pub struct Framed {
-    pub frame: Frame,
-    pub registers0: unit::Registers,
-    pub registers1: unit::Registers,
-    pub registers2: unit::Registers,
-    pub registers3: unit::Registers,
+impl From<runs::Outcome> for Channel {
+    ghost from_gives = { λ run channel. channel ≡ channel_of run };
+
+    fn from(run: runs::Outcome) -> Channel {
+        Channel {
+            end: run.end,
+            ran: run.ran,
+            cycles: run.cycles,
+        }
+    }
 }
 
-// A channel's first turn, counted: the operations run, the cycles used, and what is left of its guarantee.
-#[derive(Clone, Copy)]
-struct First {
-    ran: u32,
-    used: u32,
-    left: u32,
+// What a refused frame answers: its number, and zeros beside it.
+impl From<Refusal> for Frame {
+    ghost from_gives = { λ refusal frame. frame ≡ refused_answer (number_of refusal) };
+
+    fn from(refusal: Refusal) -> Frame {
+        let zeros = Channel {
+            end: 0,
+            ran: 0,
+            cycles: 0,
+        };
+        Frame {
+            refusal: u8::from(refusal),
+            channels: [zeros; 4],
+        }
+    }
 }
 
-// internal: whole operations, at most 1,024, of which the first `ran` are passed over. How far a budget carries the others; none is run.
-fn count(ops: &[u8], ran: u32, budget: u32) -> runs::Turn
-    requires { Whole ops.now × (4 * ran ≤ length ops.now) }
-    ensures { result ≡ counted_of (drop ran (operations_of ops.now)) budget }
+// internal: at most 1,024 operations. How far a budget carries them; none is run. (The loop of runs::go_on but for its step: as a closure, with a clause on all states
+// that it goes through, that would be no plainer.)
+fn count(ops: &[u8], budget: u32) -> runs::Turn
+    requires { length ops.now ≤ 4096 }
+    ensures counted { result ≡ counted_of (operations_of ops.now) budget }
+    ensures within_list { 4 * result.ran ≤ length ops.now }
+    ensures within_budget { result.cycles ≤ budget }
 {
     let mut left = budget;
-    let mut counted: u32 = 0;
-    let mut at = unit::bytes_of(ran);
-    while at < ops.len() {
-        let cycles = unit::cycles_of(ops[at]);
+    let mut ran = 0;
+    for operation in ops.chunks_exact(4) {
+        let cycles = unit::cycles_of(operation[0]);
         if left < cycles {
-            return turn_of(counted, budget - left);
+            break;
         }
         left -= cycles;
-        counted += 1;
-        at += 4;
+        ran += 1;
     }
-    turn_of(counted, budget - left)
-}
-
-fn turn_of(ran: u32, cycles: u32) -> runs::Turn
-    ensures { result ≡ record { ran = ran; cycles = cycles } }
-{
-    runs::Turn { ran, cycles }
-}
-
-// internal: a channel's number, and lists as `count` takes them. The count of that channel.
-fn count_at(
-    n: usize,
-    ops0: &[u8],
-    ops1: &[u8],
-    ops2: &[u8],
-    ops3: &[u8],
-    ran: u32,
-    budget: u32,
-) -> runs::Turn
-    requires { (n < 4) × Whole ops0.now × Whole ops1.now × Whole ops2.now × Whole ops3.now
-        × (4 * ran ≤ length (get_or (ops0.now ∷ ops1.now ∷ ops2.now ∷ ops3.now ∷ []) n [])) }
-    ensures { result ≡ counted_of (drop ran (operations_of (get_or (ops0.now ∷ ops1.now ∷ ops2.now ∷ ops3.now ∷ []) n []))) budget }
-{
-    if n == 0 {
-        return count(ops0, ran, budget);
-    }
-    if n == 1 {
-        return count(ops1, ran, budget);
-    }
-    if n == 2 {
-        return count(ops2, ran, budget);
-    }
-    count(ops3, ran, budget)
-}
-
-// internal: a channel's number, and what `offer` takes. The channel's budget is what its first turn used and all that is left of the rest; what it leaves of the rest.
-fn offer_to(
-    n: usize,
-    ops0: &[u8],
-    ops1: &[u8],
-    ops2: &[u8],
-    ops3: &[u8],
-    ran: [u32; 4],
-    used: [u32; 4],
-    budgets: &mut [u32; 4],
-    left: u32,
-) -> u32
-    requires { (n < 4) × (length budgets.old ≡ 4) × Whole ops0.now × Whole ops1.now × Whole ops2.now × Whole ops3.now × (get_or used n 0 + left ≤ 4294967295)
-        × (4 * get_or ran n 0 ≤ length (get_or (ops0.now ∷ ops1.now ∷ ops2.now ∷ ops3.now ∷ []) n [])) }
-    ensures { (budgets.new ≡ set budgets.old n (get_or used n 0 + left))
-        × (result ≡ rest_after (get_or (ops0.now ∷ ops1.now ∷ ops2.now ∷ ops3.now ∷ []) n []) (get_or ran n 0) left) }
-{
-    let second = count_at(n, ops0, ops1, ops2, ops3, ran[n], left);
-    budgets[n] = used[n] + left;
-    left - second.cycles
-}
-
-// internal: lists, the operations run and the cycles used in the first turns. The rest is offered in number order: the budgets of both turns of each channel.
-fn offer(
-    ops0: &[u8],
-    ops1: &[u8],
-    ops2: &[u8],
-    ops3: &[u8],
-    ran: [u32; 4],
-    used: [u32; 4],
-    rest: u32,
-) -> [u32; 4]
-    requires { Whole ops0.now × Whole ops1.now × Whole ops2.now × Whole ops3.now × ((n : ℕ) → get_or used n 0 + rest ≤ 4294967295)
-        × ((n : ℕ) → 4 * get_or ran n 0 ≤ length (get_or (ops0.now ∷ ops1.now ∷ ops2.now ∷ ops3.now ∷ []) n [])) }
-    ensures { result ≡ up_to 4 (budget_of (ops0.now ∷ ops1.now ∷ ops2.now ∷ ops3.now ∷ []) ran used rest) }
-{
-    let mut budgets = [0u32; 4];
-    let mut left = rest;
-    let mut n: usize = 0;
-    while n < 4 {
-        left = offer_to(n, ops0, ops1, ops2, ops3, ran, used, &mut budgets, left);
-        n += 1;
-    }
-    budgets
-}
-
-// internal: whole operations, at most 1,024. A channel's turn within its guarantee.
-fn first_turn(ops: &[u8], guarantee: u32) -> First
-    requires { Whole ops.now }
-    ensures { CountedFirst ops.now guarantee result.ran result.used result.left }
-{
-    let turn = count(ops, 0, guarantee);
-    First {
-        ran: turn.ran,
-        used: turn.cycles,
-        left: guarantee - turn.cycles,
+    runs::Turn {
+        ran,
+        cycles: budget - left,
     }
 }
 
-// internal: whole operations, at most 1,024 in each list, and guarantees whose sum fits in 32 bits. The budgets of both turns of each channel.
-fn budgets_of(ops0: &[u8], ops1: &[u8], ops2: &[u8], ops3: &[u8], guarantees: &[u32; 4]) -> [u32; 4]
-    requires { Whole ops0.now × Whole ops1.now × Whole ops2.now × Whole ops3.now
-        × (sum_of_four guarantees.now ≤ 4294967295) }
-    ensures { result ≡ budgets_by (ops0.now ∷ ops1.now ∷ ops2.now ∷ ops3.now ∷ []) guarantees.now }
-{
-    let first0 = first_turn(ops0, guarantees[0]);
-    let first1 = first_turn(ops1, guarantees[1]);
-    let first2 = first_turn(ops2, guarantees[2]);
-    let first3 = first_turn(ops3, guarantees[3]);
-    let ran = [first0.ran, first1.ran, first2.ran, first3.ran];
-    let used = [first0.used, first1.used, first2.used, first3.used];
-    let rest = first0.left + first1.left + first2.left + first3.left;
-    offer(ops0, ops1, ops2, ops3, ran, used, rest)
+// The lists and guarantees of a frame that is not refused: whole operations, at most 1,024 each, and a sum that fits in 32 bits.
+#[derive(Clone, Copy)]
+struct Accepted<'a> {
+    lists: [&'a [u8]; 4],
+    guarantees: [u32; 4],
+    ghost four: { length lists ≡ 4 },
+    ghost whole: { All (λ list. Whole list.now) lists },
+    ghost fits: { sum guarantees ≤ 4294967295 },
 }
 
-// internal: a bank's list, and whole operations, at most 1,024. A run of them.
-fn run_channel(
-    registers: unit::Registers,
-    list: &mut [u8; 4096],
-    ops: &[u8],
-    budget: u32,
-) -> runs::Ran
-    requires { (length list.old ≡ 4096) × Whole ops.now }
-    ensures { leaving result.run (bank_of result.registers list.new) ≡ carried_out (bank_of registers list.old) ops.now budget }
-{
-    let mut general = registers.general;
-    let mut b = registers.b;
-    let mut ib = registers.ib;
-    let marks = runs::marks_of(registers);
-    let after = runs::perform(0, &mut general, &mut b, &mut ib, marks, list, ops, budget);
-    runs::ran_at(after, general, b, ib)
-}
+impl<'a> Accepted<'a> {
+    // internal: one of the four channels. Its list, to be run.
+    fn operations(&self, n: usize) -> runs::Operations<'a>
+        requires { n < 4 }
+        ensures { result.bytes.now ≡ get_or (map (λ list. list.now) self.now.lists) n [] }
+    {
+        runs::Operations {
+            bytes: self.lists[n],
+        }
+    }
 
-fn channel_of(after: runs::Ran) -> Channel
-    ensures { result ≡ channel_of after.run }
-{
-    Channel {
-        end: after.run.end,
-        ran: after.run.ran,
-        cycles: after.run.cycles,
+    // Each channel's turn within its guarantee, counted.
+    fn first_turns(&self) -> [runs::Turn; 4]
+        ensures counted { (n : ℕ) → n < 4 → turn_at result n ≡ first_of (map (λ list. list.now) self.now.lists) self.now.guarantees n }
+        ensures within_lists { (n : ℕ) → n < 4 → 4 * (turn_at result n).ran ≤ length (get_or (map (λ list. list.now) self.now.lists) n []) }
+        ensures within_guarantees { (n : ℕ) → n < 4 → (turn_at result n).cycles ≤ get_or self.now.guarantees n 0 }
+    {
+        std::array::from_fn(|n| count(self.lists[n], self.guarantees[n]))
+    }
+
+    // internal: turns within the guarantees. What the four left of these, in one sum.
+    fn rest(&self, first: &[runs::Turn; 4]) -> u32
+        requires { (n : ℕ) → n < 4 → (turn_at first.now n).cycles ≤ get_or self.now.guarantees n 0 }
+        ensures { result ≡ unused_of first.now self.now.guarantees }
+    {
+        let mut rest = 0;
+        for (turn, guarantee) in first.iter().zip(&self.guarantees) {
+            rest += *guarantee - turn.cycles;
+        }
+        rest
+    }
+
+    // internal: turns within the lists, and the rest. It is offered in number order: the budgets of both turns of each channel.
+    fn offer(&self, first: &[runs::Turn; 4], rest: u32) -> [u32; 4]
+        requires within_lists { (n : ℕ) → n < 4 → 4 * (turn_at first.now n).ran ≤ length (get_or (map (λ list. list.now) self.now.lists) n []) }
+        requires fits { (n : ℕ) → n < 4 → (turn_at first.now n).cycles + rest ≤ 4294967295 }
+        ensures { result ≡ up_to 4 (budget_of (map (λ list. list.now) self.now.lists) first.now rest) }
+    {
+        let mut budgets = [0u32; 4];
+        let mut left = rest;
+        // (By number: `budgets` is written beside the two that are read, and a zip of three nests its tuples, which is no plainer.)
+        for channel in 0..4 {
+            let turn = first[channel];
+            budgets[channel] = turn.cycles + left;
+            let second = count(&self.lists[channel][unit::bytes_of(turn.ran)..], left);
+            left -= second.cycles;
+        }
+        budgets
+    }
+
+    // The budgets of both turns of each channel.
+    fn budgets(&self) -> [u32; 4]
+        ensures { result ≡ budgets_by (map (λ list. list.now) self.now.lists) self.now.guarantees }
+    {
+        let first = self.first_turns();
+        let rest = self.rest(&first);
+        self.offer(&first, rest)
     }
 }
 
-// A frame's answer with the registers of its channels.
-fn answered(after0: runs::Ran, after1: runs::Ran, after2: runs::Ran, after3: runs::Ran) -> Framed
-    ensures { result ≡ record {
-      frame = record { refusal = 0; channels = channel_of after0.run ∷ channel_of after1.run ∷ channel_of after2.run ∷ channel_of after3.run ∷ [] };
-      registers0 = after0.registers;
-      registers1 = after1.registers;
-      registers2 = after2.registers;
-      registers3 = after3.registers;
-    } }
+// Whether a run waits on the bank of which the operations are not the remainder.
+fn other_waits(bank: &unit::Bank, ops: &[u8]) -> bool
+    ensures { result ≡ other_waits (record { bank = bank.now; bytes = ops.now; guarantee = 0 }) }
 {
-    let channel0 = channel_of(after0);
-    let channel1 = channel_of(after1);
-    let channel2 = channel_of(after2);
-    let channel3 = channel_of(after3);
-    let channels = [channel0, channel1, channel2, channel3];
-    let registers0 = after0.registers;
-    let registers1 = after1.registers;
-    let registers2 = after2.registers;
-    let registers3 = after3.registers;
-    Framed {
-        frame: Frame {
-            refusal: 0,
-            channels,
-        },
-        registers0,
-        registers1,
-        registers2,
-        registers3,
+    bank.registers.waiting != 0 && !runs::is_remainder(bank, ops)
+}
+
+// The lowest refusal of a channel's list.
+fn check_list(bank: &unit::Bank, ops: &[u8]) -> Result<(), Refusal>
+    ensures { number_in result ≡ run_refusal (other_waits (record { bank = bank.now; bytes = ops.now; guarantee = 0 })) ops.now }
+{
+    runs::run_refusal(other_waits(bank, ops), ops)?;
+    Ok(())
+}
+
+// The lower of two refusals, or the one that there is.
+fn lower(first: Result<(), Refusal>, second: Result<(), Refusal>) -> Result<(), Refusal>
+    ensures { number_in result ≡ lower_of (number_in first) (number_in second) }
+{
+    match (first, second) {
+        (Err(one), Err(other)) if other < one => second,
+        (Ok(()), _) => second,
+        _ => first,
     }
 }
 
-// The status bytes of all four banks with bit 2 set.
-fn refused_statuses(statuses: [u8; 4]) -> [u8; 4]
-    ensures { result ≡ refused_statuses statuses }
+// The lowest refusal over all four lists of operations.
+fn check_lists(banks: &[&unit::Bank; 4], lists: &[&[u8]; 4]) -> Result<(), Refusal>
+    ensures { number_in result ≡ lowest (lists_conditions (brought_by (map (λ bank. bank.now) banks.now) (map (λ list. list.now) lists.now) [])) }
 {
-    let mut after = statuses;
-    let mut channel: usize = 0;
-    while channel < 4 {
-        after[channel] = runs::status_after(statuses[channel], 0);
-        channel += 1;
+    let mut lowest = Ok(());
+    for (bank, list) in banks.iter().zip(lists) {
+        lowest = lower(lowest, check_list(bank, list));
     }
-    after
+    lowest
 }
 
-fn with_status(registers: unit::Registers, status: u8) -> unit::Registers
-    ensures { result ≡ with_status registers status }
+// The true sum of the guarantees.
+fn sum_of(guarantees: &[u32; 4]) -> u64
+    ensures { result ≡ sum guarantees.now }
 {
-    let mut after = registers;
-    after.status = status;
-    after
+    guarantees.iter().map(|guarantee| *guarantee as u64).sum()
 }
 
-// What a refused frame answers: its number, zeros beside it, and the registers of all four banks with status bit 2 set.
-fn turned_back(
-    registers0: unit::Registers,
-    registers1: unit::Registers,
-    registers2: unit::Registers,
-    registers3: unit::Registers,
-    number: u8,
-) -> Framed
-    ensures { result ≡ record {
-      frame = record { refusal = number; channels = replicate 4 (record { «end» = 0; ran = 0; cycles = 0 }) };
-      registers0 = marked_by registers0 0;
-      registers1 = marked_by registers1 0;
-      registers2 = marked_by registers2 0;
-      registers3 = marked_by registers3 0;
-    } }
+// Refused if the guarantees sum above the frame's cycles.
+fn check_sum(guarantees: &[u32; 4], cycles: u32) -> Result<(), Refusal>
+    ensures { number_in result ≡ lowest (sum_conditions guarantees.now cycles) }
 {
-    let zeros = Channel {
-        end: 0,
-        ran: 0,
-        cycles: 0,
-    };
-    let statuses = [
-        registers0.status,
-        registers1.status,
-        registers2.status,
-        registers3.status,
-    ];
-    let status = refused_statuses(statuses);
-    let after0 = with_status(registers0, status[0]);
-    let after1 = with_status(registers1, status[1]);
-    let after2 = with_status(registers2, status[2]);
-    let after3 = with_status(registers3, status[3]);
-    Framed {
-        frame: Frame {
-            refusal: number,
-            channels: [zeros; 4],
-        },
-        registers0: after0,
-        registers1: after1,
-        registers2: after2,
-        registers3: after3,
-    }
-}
-
-// internal: a bank's list. Whether a run waits on the bank of which the operations are not the remainder.
-fn other_waits(marks: runs::Marks, list: &[u8; 4096], ops: &[u8]) -> bool
-    requires { length list.now ≡ 4096 }
-    ensures { result ≡ (not (eqb marks.waiting 0) && not (is_remainder marks.left list.now ops.now)) }
-{
-    if marks.waiting == 0 {
-        return false;
-    }
-    !runs::is_remainder(marks.left, list, ops)
-}
-
-// internal: a bank's list. The lowest refusal of a channel's list, 0 if there is none.
-fn list_refusal(marks: runs::Marks, list: &[u8; 4096], ops: &[u8]) -> u8
-    requires { length list.now ≡ 4096 }
-    ensures { result ≡ run_refusal (not (eqb marks.waiting 0) && not (is_remainder marks.left list.now ops.now)) ops.now }
-{
-    let other = other_waits(marks, list, ops);
-    runs::run_refusal(other, ops)
-}
-
-// The lower of two refusals, of which 0 is none.
-fn lower(first: u8, second: u8) -> u8
-    ensures { result ≡ lower_of first second }
-{
-    if first == 0 {
-        return second;
-    }
-    if second == 0 {
-        return first;
-    }
-    if first <= second {
-        return first;
-    }
-    second
-}
-
-// internal: the banks' lists. The lowest refusal over all four lists of operations, 0 if there is none.
-fn lists_refusal(
-    marks0: runs::Marks,
-    marks1: runs::Marks,
-    marks2: runs::Marks,
-    marks3: runs::Marks,
-    list0: &[u8; 4096],
-    list1: &[u8; 4096],
-    list2: &[u8; 4096],
-    list3: &[u8; 4096],
-    ops0: &[u8],
-    ops1: &[u8],
-    ops2: &[u8],
-    ops3: &[u8],
-) -> u8
-    requires { (length list0.now ≡ 4096) × (length list1.now ≡ 4096) × (length list2.now ≡ 4096) × (length list3.now ≡ 4096) }
-    ensures { result ≡ lowest (lists_conditions (brought_by
-        (bank_of (with_marks fresh marks0) list0.now ∷ bank_of (with_marks fresh marks1) list1.now ∷ bank_of (with_marks fresh marks2) list2.now ∷ bank_of (with_marks fresh marks3) list3.now ∷ [])
-        (ops0.now ∷ ops1.now ∷ ops2.now ∷ ops3.now ∷ []) [])) }
-{
-    let refused0 = list_refusal(marks0, list0, ops0);
-    let refused1 = list_refusal(marks1, list1, ops1);
-    let refused2 = list_refusal(marks2, list2, ops2);
-    let refused3 = list_refusal(marks3, list3, ops3);
-    lower(refused0, lower(refused1, lower(refused2, refused3)))
-}
-
-// The true sum of four guarantees.
-fn sum_of(guarantee0: u32, guarantee1: u32, guarantee2: u32, guarantee3: u32) -> u64
-    ensures { result ≡ guarantee0 + guarantee1 + guarantee2 + guarantee3 }
-{
-    (guarantee0 as u64) + (guarantee1 as u64) + (guarantee2 as u64) + (guarantee3 as u64)
-}
-
-// 15 if the guarantees sum above the frame's cycles, else 0.
-fn sum_refusal(guarantees: &[u32; 4], cycles: u32) -> u8
-    ensures { result ≡ lowest (sum_conditions guarantees.now cycles) }
-{
-    let sum = sum_of(guarantees[0], guarantees[1], guarantees[2], guarantees[3]);
+    let sum = sum_of(guarantees);
     if (cycles as u64) < sum {
-        return bits::FRAME;
+        return Err(Refusal::Frame);
     }
-    bits::CARRIED_OUT
+    Ok(())
 }
 
-// A frame's refusal, from the lowest over its lists.
-fn refusal_of(lists: u8, guarantees: &[u32; 4], cycles: u32) -> u8
-    ensures { result ≡ cond (eqb lists 0) (lowest (sum_conditions guarantees.now cycles)) lists }
+// A frame's lowest refusal, or what it brings.
+fn check<'a>(
+    banks: &[&unit::Bank; 4],
+    lists: [&'a [u8]; 4],
+    guarantees: [u32; 4],
+    cycles: u32,
+) -> Result<Accepted<'a>, Refusal>
+    ensures { MatchResult result
+        (λ accepted. (accepted.lists ≡ lists.entry) × (accepted.guarantees ≡ guarantees)
+        × (frame_refusal (brought_by (map (λ bank. bank.now) banks.now) (map (λ list. list.now) lists.entry) guarantees) cycles ≡ 0))
+        (λ refusal. number_of refusal ≡ frame_refusal (brought_by (map (λ bank. bank.now) banks.now) (map (λ list. list.now) lists.entry) guarantees) cycles) }
 {
-    if lists != 0 {
-        return lists;
-    }
-    sum_refusal(guarantees, cycles)
+    check_lists(banks, &lists)?;
+    check_sum(&guarantees, cycles)?;
+    Ok(Accepted { lists, guarantees })
 }
 
-// internal: the banks' lists. Four channels in one frame: the answer of each, and what is left in the banks; or the lowest refusal, and status bit 2 in all four.
+// Status bit 2 set in a bank.
+fn refuse(bank: &mut unit::Bank)
+    ensures { bank.new ≡ noted bank.old 0 }
+{
+    runs::note(&mut bank.registers, runs::End::Refused);
+}
+
+// Four channels in one frame: the answer of each, and what is left in the banks; or the lowest refusal, and status bit 2 in all four.
+// (An array of the banks was tried: its caller's proof doesn't learn what each is left as.)
 pub fn run_frame(
-    registers0: unit::Registers,
-    registers1: unit::Registers,
-    registers2: unit::Registers,
-    registers3: unit::Registers,
-    list0: &mut [u8; 4096],
-    list1: &mut [u8; 4096],
-    list2: &mut [u8; 4096],
-    list3: &mut [u8; 4096],
-    ops0: &[u8],
-    ops1: &[u8],
-    ops2: &[u8],
-    ops3: &[u8],
+    bank0: &mut unit::Bank,
+    bank1: &mut unit::Bank,
+    bank2: &mut unit::Bank,
+    bank3: &mut unit::Bank,
+    lists: [&[u8]; 4],
     guarantees: &[u32; 4],
     cycles: u32,
-) -> Framed
-    requires { (length list0.old ≡ 4096) × (length list1.old ≡ 4096) × (length list2.old ≡ 4096) × (length list3.old ≡ 4096) }
-    ensures { leaving_all result.frame
-        (bank_of result.registers0 list0.new ∷ bank_of result.registers1 list1.new ∷ bank_of result.registers2 list2.new ∷ bank_of result.registers3 list3.new ∷ [])
-        ≡ frame_of (brought_by
-        (bank_of registers0 list0.old ∷ bank_of registers1 list1.old ∷ bank_of registers2 list2.old ∷ bank_of registers3 list3.old ∷ [])
-        (ops0.now ∷ ops1.now ∷ ops2.now ∷ ops3.now ∷ []) guarantees.now) cycles }
+) -> Frame
+    ensures { leaving_all result (bank0.new ∷ bank1.new ∷ bank2.new ∷ bank3.new ∷ [])
+        ≡ frame_of (brought_by (bank0.old ∷ bank1.old ∷ bank2.old ∷ bank3.old ∷ []) (map (λ list. list.now) lists.entry) guarantees.now) cycles }
 {
-    let marks0 = runs::marks_of(registers0);
-    let marks1 = runs::marks_of(registers1);
-    let marks2 = runs::marks_of(registers2);
-    let marks3 = runs::marks_of(registers3);
-    let lists = lists_refusal(
-        marks0, marks1, marks2, marks3, list0, list1, list2, list3, ops0, ops1, ops2, ops3,
-    );
-    let refused = refusal_of(lists, guarantees, cycles);
-    if refused != 0 {
-        return turned_back(registers0, registers1, registers2, registers3, refused);
+    let banks = [&*bank0, &*bank1, &*bank2, &*bank3];
+    let accepted = match check(&banks, lists, *guarantees, cycles) {
+        Ok(accepted) => accepted,
+        Err(refusal) => {
+            refuse(bank0);
+            refuse(bank1);
+            refuse(bank2);
+            refuse(bank3);
+            return Frame::from(refusal);
+        }
+    };
+    let budgets = accepted.budgets();
+    let run0 = runs::perform(bank0, Ok(accepted.operations(0)), budgets[0]);
+    let run1 = runs::perform(bank1, Ok(accepted.operations(1)), budgets[1]);
+    let run2 = runs::perform(bank2, Ok(accepted.operations(2)), budgets[2]);
+    let run3 = runs::perform(bank3, Ok(accepted.operations(3)), budgets[3]);
+    Frame {
+        refusal: bits::CARRIED_OUT,
+        channels: [
+            Channel::from(run0),
+            Channel::from(run1),
+            Channel::from(run2),
+            Channel::from(run3),
+        ],
     }
-    let budgets = budgets_of(ops0, ops1, ops2, ops3, guarantees);
-    let after0 = run_channel(registers0, list0, ops0, budgets[0]);
-    let after1 = run_channel(registers1, list1, ops1, budgets[1]);
-    let after2 = run_channel(registers2, list2, ops2, budgets[2]);
-    let after3 = run_channel(registers3, list3, ops3, budgets[3]);
-    answered(after0, after1, after2, after3)
 }

@@ -1,9 +1,9 @@
 -- Gather, scatter and group at width 64 are those at every width that holds the mask and the word; the sum that makes group.
 -- Assumes nothing.
-use mathlib.Core.Path.{◌≡◌, sym, ◌∙◌, ap}
-use Prim.Native.Nat.{ℕ, zero, suc, ◌+◌, ◌-◌, ◌*◌, ◌^◌, ◌<◌, ◌≤◌, min}
+use mathlib.Core.Path.{◌≡◌, refl, sym, ◌∙◌}
+use Prim.Native.Nat.{ℕ, suc, ◌+◌, ◌-◌, ◌*◌, ◌^◌, ◌<◌, ◌≤◌, min}
 use native.Mathlib.Omega.{arith}
-use native.Mathlib.Decide.{dec_lt}
+use native.Mathlib.Decide.{le_ind}
 use native.Mathlib.Nat.{zero-mul, zero-add, zero-min}
 use lib.Pow.{pow_mono, shl_lt}
 use Rattle.bits.specs.Bit.{bit, rank, marked, unmarked}
@@ -26,12 +26,7 @@ module _ (m x : ℕ) where
 
 -- what no place from w up changes is the same at every width from w up
 steady : (f : ℕ → ℕ) (w v : ℕ) → ((u : ℕ) → w ≤ u → f (suc u) ≡ f u) → w ≤ v → f v ≡ f w
-steady f w zero h l = let e : w ≡ zero = omega arith in ap f (sym e)
-steady f w (suc v) h l = by_cases (dec_lt v w) (steady f w v h)
-  where
-    by_cases : Dec (v < w) → (w ≤ v → f v ≡ f w) → f (suc v) ≡ f w
-    by_cases (yes b) g = let e : suc v ≡ w = omega arith in ap f e
-    by_cases (no n) g = let b : w ≤ v = omega arith in h v b ∙ g b
+steady f w v h l = le_ind (λ n. f n ≡ f w) refl (λ u b e. h u b ∙ e) v l
 
 module _ (w m x : ℕ) (h : w ≤ 64) where
   -- nothing is gathered from w up

@@ -2,7 +2,7 @@
 use mathlib.Core.Path.{◌≡◌, refl, sym, ◌∙◌, ap, ap₂}
 use mathlib.Core.Bool.{true, ◌&&◌}
 use mathlib.Core.List.{[], ◌∷◌}
-use Prim.Native.Nat.{ℕ, ◌+◌, ◌*◌, ◌%◌, ◌^◌, ◌<◌, ◌≤◌, ◌-◌, min}
+use Prim.Native.Nat.{ℕ, ◌+◌, ◌*◌, ◌/◌, ◌%◌, ◌^◌, ◌<◌, ◌≤◌, ◌-◌, min}
 use native.Mathlib.Omega.{arith}
 use native.Mathlib.Nat.{mod-lt}
 use lib.Bits.{bit_and, and_mod}
@@ -12,10 +12,9 @@ use Rattle.bits.proofs.Refusals.{both}
 use Rattle.bits.proofs.Word.{bit-zero, bit-and}
 use Rattle.bits.proofs.Places.{pick-marked-suc, put-marked-suc}
 use Rattle.gather.specs.Gather.{gather_of, scatter_of}
-use Rattle.gather.specs.declared.Levels.{Levels}
-use Rattle.gather.specs.Parts.{in_parts, levels_of, counts_of, gaps_of, gather_parts, scatter_parts, down, up}
+use Rattle.gather.specs.Parts.{in_parts, counts_of, gaps_of, gather_parts, scatter_parts, down, up}
 use Rattle.gather.proofs.Parts.{every_part, parts-ext, parts-and, parts_first, parts-second}
-use Rattle.gather.proofs.Counting.{lower_of, lower_by, gaps-by, counts_bits}
+use Rattle.gather.proofs.Counting.{lower_of, lower_by, sum_by, gaps-by, counts_bits}
 use Rattle.gather.proofs.Moving.{Shifts, downs, ups, down_all, up_all, inside, joins_at, joins, splits_at, splits, gather-level, scatter-level, up_lt}
 
 -- the moves of a level: the distance, and the factor that makes of it the places that move
@@ -101,55 +100,62 @@ up4 : (g y : ℕ)
 unfolding up_all every_part in_parts
 up4 g y = refl
 
--- counting, by the code's steps
+-- counting, by the code's steps: each count of parts is the sum of its lower halves and of what is above them
 
-module _ (m : ℕ) where
-  pub lower1 : m < 2 ^ 64 → bit_and m 0x5555555555555555 ≡ lower_of 1 32 m
+module _ {m : ℕ} (l : m < 2 ^ 64) where
+  lower1 : bit_and m 0x5555555555555555 ≡ lower_of 1 32 m
   unfolding every_part in_parts
-  lower1 l = lower_by 1 32 m (sym (counts_bits 64 l)) refl
+  lower1 = lower_by 1 32 m (sym (counts_bits 64 l)) refl
 
-  module _ {c : ℕ} where
-    pub lower2 : c ≡ counts_of 2 32 m → bit_and c 0x3333333333333333 ≡ lower_of 2 16 m
+  pub gaps1 : 0x5555555555555555 - bit_and m 0x5555555555555555 ≡ gaps_of 1 32 m
+  unfolding every_part in_parts
+  gaps1 = (gaps-by 1 32 m refl lower1).1
+
+  module _ {c2 : ℕ} (e2 : let lower = bit_and m 0x5555555555555555 in c2 ≡ lower + (m - lower) / 2 ^ 1) where
+    counts2 : c2 ≡ counts_of 2 32 m
+    counts2 = sum_by 1 32 m (sym (counts_bits 64 l)) lower1 e2
+
+    lower2 : bit_and c2 0x3333333333333333 ≡ lower_of 2 16 m
     unfolding every_part in_parts
-    lower2 e = lower_by 2 16 m e refl
+    lower2 = lower_by 2 16 m counts2 refl
 
-    pub lower4 : c ≡ counts_of 4 16 m → bit_and c 0x0F0F0F0F0F0F0F0F ≡ lower_of 4 8 m
+    pub gaps2 : let lower = bit_and c2 0x3333333333333333 in (lower ≤ 0x2222222222222222) × (0x2222222222222222 - lower ≡ gaps_of 2 16 m)
     unfolding every_part in_parts
-    lower4 e = lower_by 4 8 m e refl
+    gaps2 = gaps-by 2 16 m refl lower2
 
-  module _ {l : ℕ} where
-    pub gaps1 : l ≡ lower_of 1 32 m → (l ≤ 0x5555555555555555) × (0x5555555555555555 - l ≡ gaps_of 1 32 m)
-    unfolding every_part in_parts
-    gaps1 e = gaps-by 1 32 m refl e
+    module _ {c4 : ℕ} (e4 : let lower = bit_and c2 0x3333333333333333 in c4 ≡ lower + (c2 - lower) / 2 ^ 2) where
+      counts4 : c4 ≡ counts_of 4 16 m
+      counts4 = sum_by 2 16 m counts2 lower2 e4
 
-    pub gaps2 : l ≡ lower_of 2 16 m → (l ≤ 0x2222222222222222) × (0x2222222222222222 - l ≡ gaps_of 2 16 m)
-    unfolding every_part in_parts
-    gaps2 e = gaps-by 2 16 m refl e
+      lower4 : bit_and c4 0x0F0F0F0F0F0F0F0F ≡ lower_of 4 8 m
+      unfolding every_part in_parts
+      lower4 = lower_by 4 8 m counts4 refl
 
-    pub gaps4 : l ≡ lower_of 4 8 m → (l ≤ 0x0404040404040404) × (0x0404040404040404 - l ≡ gaps_of 4 8 m)
-    unfolding every_part in_parts
-    gaps4 e = gaps-by 4 8 m refl e
+      pub gaps4 : let lower = bit_and c4 0x0F0F0F0F0F0F0F0F in (lower ≤ 0x0404040404040404) × (0x0404040404040404 - lower ≡ gaps_of 4 8 m)
+      unfolding every_part in_parts
+      gaps4 = gaps-by 4 8 m refl lower4
 
-module _ (m x : ℕ) (l : m < 2 ^ 64) (h : x < 2 ^ 64) {ls : Levels} (e : ls ≡ levels_of m) where
-  pub gather-bytes : {y1 y2 y3 y4 y5 y6 : ℕ} → y1 ≡ down 1 (bit_and ls.gaps1 0x5555555555555555 * 2) (bit_and x m)
-      → y2 ≡ down 1 (bit_and ls.gaps2 0x1111111111111111 * 12) y1 → y3 ≡ down 2 (bit_and ls.gaps2 0x2222222222222222 * 6) y2
-      → y4 ≡ down 1 (bit_and ls.gaps4 0x0101010101010101 * 240) y3 → y5 ≡ down 2 (bit_and ls.gaps4 0x0202020202020202 * 124) y4
-      → y6 ≡ down 4 (bit_and ls.gaps4 0x0404040404040404 * 60) y5 → y6 ≡ gather_parts 8 8 m x
-  unfolding levels_of
+      pub counts8 : {c8 : ℕ} → (let lower = bit_and c4 0x0F0F0F0F0F0F0F0F in c8 ≡ lower + (c4 - lower) / 2 ^ 4) → c8 ≡ counts_of 8 8 m
+      counts8 e8 = sum_by 4 8 m counts4 lower4 e8
+
+module _ (m x : ℕ) (l : m < 2 ^ 64) (h : x < 2 ^ 64) {g1 g2 g4 : ℕ} (e : (g1 ≡ gaps_of 1 32 m) × (g2 ≡ gaps_of 2 16 m) × (g4 ≡ gaps_of 4 8 m)) where
+  pub gather-bytes : {y1 y2 y3 y4 y5 y6 : ℕ} → y1 ≡ down 1 (bit_and g1 0x5555555555555555 * 2) (bit_and x m)
+      → y2 ≡ down 1 (bit_and g2 0x1111111111111111 * 12) y1 → y3 ≡ down 2 (bit_and g2 0x2222222222222222 * 6) y2
+      → y4 ≡ down 1 (bit_and g4 0x0101010101010101 * 240) y3 → y5 ≡ down 2 (bit_and g4 0x0202020202020202 * 124) y4
+      → y6 ≡ down 4 (bit_and g4 0x0404040404040404 * 60) y5 → y6 ≡ gather_parts 8 8 m x
   gather-bytes {y1} {y2} {y3} {y4} {y5} {y6} e1 e2 e3 e4 e5 e6 =
-      let twos : y1 ≡ gather_parts 2 32 m x = rw (e1, e) (down1 _ _ ∙ ap (down_all 2 32 shifts1 (gaps_of 1 32 m)) (gather-bits l h) ∙ gathers 1 32 shifts1 level1 m x) in
-      let fours : y3 ≡ gather_parts 4 16 m x = rw (e3, e2, twos, e) (down2 _ _ ∙ gathers 2 16 shifts2 level2 m x) in
-      rw (e6, e5, e4, fours, e) (down4 _ _ ∙ gathers 4 8 shifts4 level4 m x)
+      let twos : y1 ≡ gather_parts 2 32 m x = rw (e1, e.0) (down1 _ _ ∙ ap (down_all 2 32 shifts1 (gaps_of 1 32 m)) (gather-bits l h) ∙ gathers 1 32 shifts1 level1 m x) in
+      let fours : y3 ≡ gather_parts 4 16 m x = rw (e3, e2, twos, e.1) (down2 _ _ ∙ gathers 2 16 shifts2 level2 m x) in
+      rw (e6, e5, e4, fours, e.2) (down4 _ _ ∙ gathers 4 8 shifts4 level4 m x)
 
-  pub scatter-bytes : {y1 y2 y3 y4 y5 y6 : ℕ} → y1 ≡ up 4 (bit_and ls.gaps4 0x0404040404040404 * 60) x
-      → y2 ≡ up 2 (bit_and ls.gaps4 0x0202020202020202 * 124) y1 → y3 ≡ up 1 (bit_and ls.gaps4 0x0101010101010101 * 240) y2
-      → y4 ≡ up 2 (bit_and ls.gaps2 0x2222222222222222 * 6) y3 → y5 ≡ up 1 (bit_and ls.gaps2 0x1111111111111111 * 12) y4
-      → y6 ≡ up 1 (bit_and ls.gaps1 0x5555555555555555 * 2) y5 → bit_and y6 m ≡ scatter_parts 8 8 m x
-  unfolding levels_of
+  pub scatter-bytes : {y1 y2 y3 y4 y5 y6 : ℕ} → y1 ≡ up 4 (bit_and g4 0x0404040404040404 * 60) x
+      → y2 ≡ up 2 (bit_and g4 0x0202020202020202 * 124) y1 → y3 ≡ up 1 (bit_and g4 0x0101010101010101 * 240) y2
+      → y4 ≡ up 2 (bit_and g2 0x2222222222222222 * 6) y3 → y5 ≡ up 1 (bit_and g2 0x1111111111111111 * 12) y4
+      → y6 ≡ up 1 (bit_and g1 0x5555555555555555 * 2) y5 → bit_and y6 m ≡ scatter_parts 8 8 m x
   scatter-bytes {y1} {y2} {y3} {y4} {y5} {y6} e1 e2 e3 e4 e5 e6 =
-      let eight : y3 ≡ up_all 8 8 shifts4 (gaps_of 4 8 m) x = rw (e3, e2, e1, e) (up4 _ _) in
-      let four : y5 ≡ up_all 4 16 shifts2 (gaps_of 2 16 m) y3 = rw (e5, e4, e) (up2 _ _) in
-      let two : y6 ≡ up_all 2 32 shifts1 (gaps_of 1 32 m) y5 = rw (e6, e) (up1 _ _) in
+      let eight : y3 ≡ up_all 8 8 shifts4 (gaps_of 4 8 m) x = rw (e3, e2, e1, e.2) (up4 _ _) in
+      let four : y5 ≡ up_all 4 16 shifts2 (gaps_of 2 16 m) y3 = rw (e5, e4, e.1) (up2 _ _) in
+      let two : y6 ≡ up_all 2 32 shifts1 (gaps_of 1 32 m) y5 = rw (e6, e.0) (up1 _ _) in
       let l3 : y3 < 2 ^ 64 = rw eight (ups-lt 4 8 shifts4 level4 refl m h) in
       let l5 : y5 < 2 ^ 64 = rw four (ups-lt 2 16 shifts2 level2 refl m l3) in
       let l6 : y6 < 2 ^ 64 = rw two (ups-lt 1 32 shifts1 level1 refl m l5) in

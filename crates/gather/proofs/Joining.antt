@@ -1,5 +1,6 @@
 -- From bytes to the word: gathered bytes are joined from the last, and to each byte are dealt the bits that it takes. Assumes nothing.
 use mathlib.Core.Path.{◌≡◌, sym, ◌∙◌, ap, ap₂}
+use Rattle.std.proofs.Common.{add-one}
 use Prim.Native.Nat.{ℕ, zero, suc, ◌+◌, ◌-◌, ◌*◌, ◌/◌, ◌%◌, ◌^◌, ◌<◌, ◌≤◌}
 use native.Mathlib.Omega.{arith}
 use native.Mathlib.Nat.{mod-eq_of_lt, mod-lt, mul-le-mul_left, lt_of_mul-lt-mul_right, div-one}
@@ -15,22 +16,19 @@ use Rattle.gather.proofs.Halves.{gather-halves, scatter-halves}
 use Rattle.gather.proofs.Parts.{Small, parts-drop}
 use Rattle.gather.proofs.Moving.{scatter-same}
 
--- byte number at / 8, and what is left above it
-module _ {f : ℕ → ℕ → ℕ} (h : Small 8 f) (m x at : ℕ) (l : at + 8 ≤ 64) (e : at % 8 ≡ 0) where
-  byte_at : in_parts 8 8 f m x / 2 ^ at ≡ in_parts 8 (7 - at / 8) f (m / 2 ^ at / 2 ^ 8) (x / 2 ^ at / 2 ^ 8) * 2 ^ 8 + f (m / 2 ^ at) (x / 2 ^ at)
+-- byte number j, and what is left above it
+module _ {f : ℕ → ℕ → ℕ} (h : Small 8 f) (m x j : ℕ) (l : j < 8) where
+  byte_at : in_parts 8 8 f m x / 2 ^ (8 * j)
+      ≡ in_parts 8 (7 - j) f (m / 2 ^ (8 * j) / 2 ^ 8) (x / 2 ^ (8 * j) / 2 ^ 8) * 2 ^ 8 + f (m / 2 ^ (8 * j)) (x / 2 ^ (8 * j))
   unfolding in_parts
-  byte_at =
-      let j = at / 8 in
-      let q : 8 * j ≡ at = omega arith in
-      let n : j + suc (7 - j) ≡ 8 = omega arith in
-      rw (q, n) at (parts-drop 8 h j (suc (7 - j)) m x)
+  byte_at = let n : j + suc (7 - j) ≡ 8 = omega arith in rw n at (parts-drop 8 h j (suc (7 - j)) m x)
 
 counts-small : Small 8 (λ m x. rank m 8)
 counts-small m x = omega (arith, rank-le m 8)
 
-module _ (m at : ℕ) (l : at + 8 ≤ 64) (e : at % 8 ≡ 0) where
-  pub count_at_lem : {counts : ℕ} → counts ≡ counts_of 8 8 m → counts / 2 ^ at % 64 ≡ rank (m / 2 ^ at) 8
-  count_at_lem c = rw c (omega (arith, byte_at counts-small m 0 at l e, rank-le (m / 2 ^ at) 8))
+module _ (m j : ℕ) (l : j < 8) where
+  pub count_at_lem : {counts : ℕ} → counts ≡ counts_of 8 8 m → counts / 2 ^ (8 * j) % 64 ≡ rank (m / 2 ^ (8 * j)) 8
+  count_at_lem c = rw c (omega (arith, byte_at counts-small m 0 j l, rank-le (m / 2 ^ (8 * j)) 8))
 
 -- The marked bits from bit `at` up, gathered below `start`.
 unfoldable pub joined_from : ℕ → ℕ → ℕ → ℕ → ℕ
@@ -70,17 +68,22 @@ module _ (start m x : ℕ) where
         in
         omega (arith, all, joined-all, rest, mul-le-mul_left {m = 1} {n = 2 ^ rank (m / 2 ^ 0) at} (joined_from start m x at) (pow_pos (rank (m / 2 ^ 0) at)))
 
-    -- one byte more, by the code's steps
-    pub joined-next : (at : ℕ) {out bytes counts : ℕ} → at + 8 ≤ 64 → at % 8 ≡ 0 → bytes ≡ gather_parts 8 8 m x → counts ≡ counts_of 8 8 m
-        → out ≡ joined_from start m x (at + 8) → bit_or (out * 2 ^ (counts / 2 ^ at % 64) % 2 ^ 64) (bytes / 2 ^ at % 256) ≡ joined_from start m x at
-    joined-next at {out} {bytes} {counts} l e b c o =
+    -- one byte more, number i - 1, by the code's steps
+    pub joined-next : (i : ℕ) {out bytes counts : ℕ} → 0 < i → i ≤ 8 → bytes ≡ gather_parts 8 8 m x → counts ≡ counts_of 8 8 m
+        → out ≡ joined_from start m x (8 * i)
+        → bit_or (out * 2 ^ (counts / 2 ^ (8 * (i - 1)) % 64) % 2 ^ 64) (bytes / 2 ^ (8 * (i - 1)) % 256) ≡ joined_from start m x (8 * (i - 1))
+    joined-next i {out} {bytes} {counts} z l b c o =
+        let j = i - 1 in
+        let at = 8 * j in
+        let k : j < 8 = omega arith in
+        let n : 8 * i ≡ at + 8 = omega arith in
         let p = m / 2 ^ at in
         let r = rank p 8 in
         let g = gather_of 8 p (x / 2 ^ at) in
-        let byte : bytes / 2 ^ at % 256 ≡ g = rw b (omega (arith, byte_at (λ m x. gather-lt m x 8) m x at l e, gather-lt p (x / 2 ^ at) 8)) in
-        let step : joined_from start m x at ≡ out * 2 ^ r + g = rw o (joined_step at 8 l) in
+        let byte : bytes / 2 ^ at % 256 ≡ g = rw b (omega (arith, byte_at (λ m x. gather-lt m x 8) m x j k, gather-lt p (x / 2 ^ at) 8)) in
+        let step : joined_from start m x at ≡ out * 2 ^ r + g = rw (o, n) (joined_step at 8 (omega arith)) in
         let exact : out * 2 ^ r % 2 ^ 64 ≡ out * 2 ^ r = mod-eq_of_lt (omega (arith, step, joined-lt at (omega arith))) in
-        rw (count_at_lem m at l e c, byte, exact) (or_shifted out r g (gather-count p (x / 2 ^ at) 8) ∙ sym step)
+        rw (count_at_lem m j k c, byte, exact) (or_shifted out r g (gather-count p (x / 2 ^ at) 8) ∙ sym step)
 
 -- Scatter: what is dealt to the bytes.
 
@@ -120,18 +123,16 @@ scatter-dealt (suc n) m x =
     (scatter-same 8 m (d * 2 ^ 8 + x % 2 ^ 8) x 8 (rank-le m 8) (low d 8 small))
     ∙ sym (ap (λ (w : ℕ). scatter_of w m x) e ∙ scatter-halves 8 m x (8 * n))
 
--- one byte more, by the code's steps
-module _ (m x at : ℕ) (l : at + 8 ≤ 64) (e : at % 8 ≡ 0) where
-  pub dealt-next : {rest : ℕ} → rest ≡ x / 2 ^ rank m at → bit_or (dealt (at / 8) m x) (rest % 256 * 2 ^ at % 2 ^ 64) ≡ dealt ((at + 8) / 8) m x
+-- byte number j more, by the code's steps
+module _ (m x j : ℕ) (l : j < 8) where
+  pub dealt-next : {rest : ℕ} → rest ≡ x / 2 ^ rank m (8 * j) → bit_or (dealt j m x) (rest % 256 * 2 ^ (8 * j) % 2 ^ 64) ≡ dealt (j + 1) m x
   dealt-next {rest} r =
-      let j = at / 8 in
-      let q : 8 * j ≡ at = omega arith in
-      let n : (at + 8) / 8 ≡ suc j = omega arith in
-      let b = x / 2 ^ rank m at % 256 in
-      let exact : b * 2 ^ at % 2 ^ 64 ≡ b * 2 ^ at = shl_exact 8 at 64 (mod-lt (x / 2 ^ rank m at) (omega arith)) (omega arith) in
-      let suc-is : dealt (suc j) m x ≡ b * 2 ^ at + dealt j m x = rw q at (dealt-suc j m x) in
-      rw (r, n, exact) (or_shifted_r b at (dealt j m x) (rw q at (dealt-lt j m x)) ∙ sym suc-is)
+      let b = x / 2 ^ rank m (8 * j) % 256 in
+      let exact : b * 2 ^ (8 * j) % 2 ^ 64 ≡ b * 2 ^ (8 * j) = shl_exact 8 (8 * j) 64 (mod-lt (x / 2 ^ rank m (8 * j)) (omega arith)) (omega arith) in
+      rw (r, exact, add-one) (or_shifted_r b (8 * j) (dealt j m x) (dealt-lt j m x) ∙ sym (dealt-suc j m x))
 
-  pub rest-next : {rest counts : ℕ} → rest ≡ x / 2 ^ rank m at → counts ≡ counts_of 8 8 m → rest / 2 ^ (counts / 2 ^ at % 64) ≡ x / 2 ^ rank m (at + 8)
+  pub rest-next : {rest counts : ℕ} → rest ≡ x / 2 ^ rank m (8 * j) → counts ≡ counts_of 8 8 m
+      → rest / 2 ^ (counts / 2 ^ (8 * j) % 64) ≡ x / 2 ^ rank m (8 * (j + 1))
   rest-next r c =
-      rw (r, count_at_lem m at l e c, shr-shr x (rank m at) (rank (m / 2 ^ at) 8)) (ap (λ (k : ℕ). x / 2 ^ k) (sym (rank-add at m 8)))
+      let n : 8 * (j + 1) ≡ 8 * j + 8 = omega arith in
+      rw (r, n, count_at_lem m j l c, shr-shr x (rank m (8 * j)) (rank (m / 2 ^ (8 * j)) 8)) (ap (λ (k : ℕ). x / 2 ^ k) (sym (rank-add (8 * j) m 8)))

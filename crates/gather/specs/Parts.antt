@@ -4,7 +4,6 @@ use Rattle.std.specs.Prelude.{ℕ, zero, suc, ◌+◌, ◌-◌, ◌*◌, ◌/◌
 use Rattle.std.specs.Int.Bits.{bit_and, bit_or, bit_xor}
 use Rattle.bits.specs.Bit.{rank}
 use Rattle.gather.specs.Gather.{gather_of, scatter_of}
-use Rattle.gather.specs.declared.Levels.{Levels}
 
 -- the word of n parts of k bits whose part j is f of what is left of m and x from bit k×j up
 unfoldable pub in_parts : ℕ → ℕ → (ℕ → ℕ → ℕ) → ℕ → ℕ → ℕ
@@ -18,10 +17,6 @@ counts_of s n m = in_parts s n (λ m x. rank m s) m 0
 -- in parts of 2s bits, the unmarked places of each lower half: so far down the upper half moves
 abbrev pub gaps_of : ℕ → ℕ → ℕ → ℕ
 gaps_of s n m = in_parts (s + s) n (λ m x. s - rank m s) m 0
-
--- what is read off a mask of 64 bits before any bit moves
-unfoldable pub levels_of : ℕ → Levels
-levels_of m = record { gaps1 = gaps_of 1 32 m; gaps2 = gaps_of 2 16 m; gaps4 = gaps_of 4 8 m; counts = counts_of 8 8 m }
 
 -- each part of s bits gathered by its part of the mask, or scattered
 abbrev pub gather_parts : ℕ → ℕ → ℕ → ℕ → ℕ

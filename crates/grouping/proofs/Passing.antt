@@ -1,16 +1,17 @@
 -- The code's pass over the destinations: what it leaves in the other array, and the mask of that. Assumes nothing.
-use mathlib.Core.Path.{◌≡◌, sym, ◌∙◌, ap, subst}
+use mathlib.Core.Path.{◌≡◌, refl, sym, ◌∙◌, ap, subst}
 use mathlib.Core.Bool.{cond}
 use mathlib.Core.List.{List}
-use Prim.Native.Nat.{ℕ, suc, ◌+◌, ◌-◌, ◌*◌, ◌/◌, ◌%◌, ◌^◌, ◌<◌, ◌≤◌}
+use Prim.Native.Nat.{ℕ, zero, suc, ◌+◌, ◌-◌, ◌*◌, ◌/◌, ◌%◌, ◌^◌, ◌<◌, ◌≤◌}
 use native.Mathlib.Omega.{arith}
 use native.Mathlib.Numerals.{add-one}
 use lib.Bits.{bit_or}
 use lib.Dec.{eqb}
+use mir.Val.{bool_byte}
 use lib.ListN.{length, get_or, set, take, length-set}
 use lib.Seq.{get_or-set_same, get_or-set_other, get_or-take, length-take-le, ext_get_or}
 use Rattle.bits.specs.Bit.{bit, rank, marked}
-use Rattle.bits.proofs.Word.{bit-of-zero, fits_bits, ext}
+use Rattle.bits.proofs.Word.{bit-lt, bit-of-zero, fits_bits, ext}
 use Rattle.bits.proofs.Places.{places-all, length_marked}
 use Rattle.routing.specs.Lists.{entry}
 use Rattle.grouping.specs.Groups.{regrouped}
@@ -20,19 +21,31 @@ use Rattle.grouping.proofs.Sorting.{mask-bit, mask_lt}
 use Rattle.grouping.proofs.StoredBits.{bit-here, bit-there}
 use Rattle.grouping.proofs.Dealing.{Dealt, Empty, deal-start, empty-start, goes, goes-below, deal-next, empty-next, empty-goes, empty-all, deal-end}
 
-module _ (w m i : ℕ) (from : List ℕ) where
-  abbrev ds : List ℕ
-  ds = take w from
+one-marked : (m p : ℕ) → bool_byte (eqb (bit m p) 1) ≡ bit m p
+one-marked m p = by (bit m p) (bit-lt m p)
+  where
+    by : (b : ℕ) → b < 2 → bool_byte (eqb b 1) ≡ b
+    by zero h = refl
+    by (suc zero) h = refl
+    by (suc (suc b)) h = absurd (omega arith)
+
+pub at-most-one : (m p : ℕ) → bool_byte (eqb (bit m p) 1) < 2
+at-most-one m p = omega (arith, one-marked m p, bit-lt m p)
+
+-- the destinations ds, of as many places
+module _ (m i : ℕ) (ds : List ℕ) where
+  abbrev w : ℕ
+  w = length ds
 
   -- what the next mask has for a place
   abbrev zero_at : ℕ → ℕ
-  zero_at p = 1 - bit (entry (take w from) p) i
+  zero_at p = 1 - bit (entry ds p) i
 
   -- the first p places are passed
   pub record Passed (p low next : ℕ) (into : List ℕ) : Type 0 where
     pub long : length into ≡ 64
     pub cursor : low ≡ length (marked m p)
-    pub dealt : Dealt w m (entry (take w from)) p (λ q. get_or into q 0)
+    pub dealt : Dealt w m (entry ds) p (λ q. get_or into q 0)
     pub bits : Dealt w m zero_at p (bit next)
     pub empty : Empty w m p (bit next)
 
@@ -41,14 +54,11 @@ module _ (w m i : ℕ) (from : List ℕ) where
       record {
         long = l;
         cursor = nothing-marked;
-        dealt = deal-start w m ds-at (λ q. get_or into q 0);
+        dealt = deal-start w m (entry ds) (λ q. get_or into q 0);
         bits = deal-start w m zero_at (bit 0);
         empty = empty-start w m (bit 0) bit-of-zero;
       }
     where
-      ds-at : ℕ → ℕ
-      ds-at = entry (take w from)
-
       nothing-marked : 0 ≡ length (marked m 0)
       nothing-marked = omega (arith, places-all m 0)
 
@@ -57,29 +67,29 @@ module _ (w m i : ℕ) (from : List ℕ) where
 
   -- the code's values: a destination, whether it is marked, and where it goes
   module _ (small : w ≤ 64) (half : Half w m) (p low next : ℕ) (into : List ℕ) (h : p < w) (passed : Passed p low next into)
-      {d marks at : ℕ} (q : d ≡ get_or from p 0) (e : marks ≡ bit m p) (f : at ≡ cond (eqb marks 1) low (w / 2 + (p - low)))
+      {d at : ℕ} (q : d ≡ get_or ds p 0) (f : at ≡ cond (eqb (bit m p) 1) low (w / 2 + (p - low)))
     where
       goes-is : at ≡ goes w m p low
-      goes-is = f ∙ ap (λ (t : ℕ). cond (eqb t 1) low (w / 2 + (p - low))) e
+      goes-is = f
 
       pub at-below : at < 64
       at-below = omega (arith, goes-is, goes-below w m half p low h passed.cursor)
 
       -- one place more
-      pub pass-next : {b : ℕ} → b ≡ 1 - bit d i → Passed (p + 1) (low + marks) (bit_or next (b * 2 ^ at % 2 ^ 64)) (set into at d)
+      pub pass-next : {b : ℕ} → b ≡ 1 - bit d i → Passed (p + 1) (low + bool_byte (eqb (bit m p) 1)) (bit_or next (b * 2 ^ at % 2 ^ 64)) (set into at d)
       unfolding rank
       pass-next {b} z =
           let to = goes w m p low in
           let c = passed.cursor in
           let room : to < 64 = omega (arith, goes-below w m half p low h c) in
-          let same : d ≡ entry ds p = q ∙ sym (get_or-take w from p 0 h) in
+          let same : d ≡ entry ds p = q in
           let digit : b < 2 = omega (arith, z) in
           let empty = empty-goes w m half p low h c (bit next) passed.empty in
           let there = bit-there next to digit room in
           rw (add-one p, goes-is)
           (record {
             long = length-set into to d ∙ passed.long;
-            cursor = omega (arith, c, length_marked m p, length_marked m (suc p), e);
+            cursor = omega (arith, c, length_marked m p, length_marked m (suc p), one-marked m p);
             dealt = deal-next w m half p low h c (λ x. get_or into x 0) (λ x. get_or (set into to d) x 0) (λ x n. get_or-set_other into to x d 0 n) (entry ds) passed.dealt
                 (get_or-set_same into to d 0 (omega (arith, passed.long)) ∙ same);
             bits = deal-next w m half p low h c (bit next) (bit (bit_or next (b * 2 ^ to % 2 ^ 64))) there zero_at passed.bits
@@ -89,7 +99,7 @@ module _ (w m i : ℕ) (from : List ℕ) where
 
   -- all places passed
   pub pass-end : w ≤ 64 → Half w m → (p low next : ℕ) (into : List ℕ) → p ≡ w → Passed p low next into
-      → (take w into ≡ regrouped w m (take w from)) × (next ≡ pass_mask w i (regrouped w m (take w from)))
+      → (take w into ≡ regrouped w m ds) × (next ≡ pass_mask w i (regrouped w m ds))
   pass-end small half p low next into e passed =
       let z = subst (λ (k : ℕ). Passed k low next into) e passed in
       let n = length-take-le w into (omega (arith, z.long)) in

@@ -97,7 +97,7 @@ module _ (w : ℕ) (es : List ℕ) (e : (groups_answer w es).refusal ≡ 0) wher
   -- the masks of its steps, and zeros after them
   pub calls-masks : take (log_to_64 w) (groups_answer w es).masks ≡ group_masks (log_to_64 w) es
   calls-masks =
-      ap (λ (r : Masks). take L r.masks) (sym (groups-done w es (sym number) refl refl)) ∙ in_use_lem L (group_masks L es) (masks-long L es is)
+      ap (λ (r : Masks). take L r.masks) (sym (groups-done w es number refl refl)) ∙ in_use_lem L (group_masks L es) (masks-long L es is)
 
   -- "Grouping by these masks in turn must bring every line of every word to its place, at all four widths."
   pub calls-groups-permute : (x : ℕ) → x < 2 ^ w → CallsGroup w (take (log_to_64 w) (groups_answer w es).masks) x (pick es x)

@@ -22,12 +22,12 @@ use Rattle.network.specs.Decoder.{decoded_stage, decode_of, decode_inverse_of}
 use Rattle.network.specs.declared.Controls.{Controls}
 use Rattle.network.specs.declared.Prepared.{Prepared}
 use Rattle.network.specs.declared.Decoded.{Decoded}
-use Rattle.network.specs.Word.{exchanges_of, prepared_of, distances, travel_of}
+use Rattle.network.specs.Word.{exchanges_of, exchanges, prepared_of, distances, travel_of}
 use Rattle.network.specs.Calls.{Uses, used_bits, controls_fit, network_refusal, network_answer, prepare_answer, six, controls, decode_answer}
 use Rattle.network.proofs.Travel.{length-falling, length-distances}
 use Rattle.network.proofs.Filling.{reverse-at}
 use Rattle.network.proofs.MaskRouting.{decoded-stage-lt, length-decode, travel-of-lt, undoes, mask-routing-scatter, mask-routing-gather}
-use Rattle.network.proofs.Six.{travel-own, exchanges, used-only, six-below, six-same}
+use Rattle.network.proofs.Six.{travel-own, used-only, six-below, six-same}
 use Rattle.network.proofs.NetworkAnswers.{each-fit, fit-each, network-refusal-by, network-within, network-is, decode-refusal-by}
 
 get_or-zeros : (n i : ℕ) → ◌≡◌ {A = ℕ} (get_or (replicate n 0) i 0) 0

@@ -1,7 +1,7 @@
 -- Arrays filled from the front, most of them of six stages. Assumes nothing.
-use mathlib.Core.Path.{◌≡◌, refl, sym, ◌∙◌, ap}
+use mathlib.Core.Path.{◌≡◌, sym, ◌∙◌, ap}
 use mathlib.Core.List.{List, [], ◌∷◌, ◌++◌, append_assoc, append-nil, reverse, reverse-cons}
-use Prim.Native.Nat.{ℕ, zero, suc, ◌+◌, ◌-◌, ◌<◌, ◌≤◌}
+use Prim.Native.Nat.{ℕ, suc, ◌+◌, ◌-◌, ◌<◌, ◌≤◌}
 use native.Mathlib.Omega.{arith}
 use native.Mathlib.Decide.{dec_lt}
 use native.Mathlib.Nat.{not-suc-le-zero}
@@ -28,19 +28,6 @@ filled a i cs = filled_to 6 a i cs
 pub fill-turn : (a : ℕ) (cs : List ℕ) (i : ℕ) {out : List ℕ} {v : ℕ} → i < 6 → i < length cs → out ≡ filled a i cs → v ≡ get_or cs i 0
     → set out i v ≡ filled a (i + 1) cs
 fill-turn a cs i h l e f = fill_more 6 a cs i h l e f
-
-set_same : (a n i : ℕ) → set (replicate n a) i a ≡ replicate n a
-set_same a zero i = refl
-set_same a (suc n) zero = refl
-set_same a (suc n) (suc i) = ap (λ (l : List ℕ). a ∷ l) (set_same a n i)
-
--- where the list has a itself
-pub fill_start : (a : ℕ) (cs : List ℕ) (i : ℕ) → i ≤ 6 → length cs ≡ 6 → ((j : ℕ) → j < i → get_or cs j 0 ≡ a) → replicate 6 a ≡ filled a i cs
-fill_start a cs zero h l f = refl
-fill_start a cs (suc i) h l f =
-    let n : i + 1 ≡ suc i = omega arith in
-    let before = fill_start a cs i (omega arith) l (λ j m. f j (omega arith)) in
-    sym (set_same a 6 i) ∙ fill-turn a cs i (omega arith) (omega arith) before (sym (f i (omega arith))) ∙ ap (λ (k : ℕ). filled a k cs) n
 
 pub fill_end : (cs : List ℕ) (i : ℕ) → i ≡ length cs → filled 0 i cs ≡ six cs
 fill_end cs i e = rw (e, take-length)

@@ -6,18 +6,13 @@ use native.Mathlib.Omega.{arith}
 use native.Mathlib.Nat.{pow-succ'}
 use lib.ListN.{length, get_or, drop, length-map, length-drop}
 use lib.Pow.{pow_mono}
-use lib.Seq.{get_or-drop}
 use Rattle.bits.specs.Bit.{of_bits}
 use Rattle.bits.proofs.Word.{of_bits-low}
 use Rattle.bits.proofs.UpTo.{map_at}
 use Rattle.network.specs.Stage.{falling}
-use Rattle.network.specs.Decoder.{control_at, decoded_stage, decode_of}
+use Rattle.network.specs.Decoder.{control_at, decoded_stage, decode_of, in_use}
 use Rattle.network.proofs.Travel.{drop-falling}
 use Rattle.network.proofs.StageBlocks.{shl_one}
-
--- the last L of six stages, and of each the bits in use
-abbrev pub in_use : ℕ → List ℕ → List ℕ
-in_use L cs = map (λ c. c % 2 ^ 2 ^ (L - 1)) (drop (6 - L) cs)
 
 module _ (L : ℕ) (pos : 0 < L) (l : L ≤ 6) where
   half : 2 ^ L / 2 ≡ 2 ^ (L - 1)
@@ -34,10 +29,8 @@ module _ (L : ℕ) (pos : 0 < L) (l : L ≤ 6) where
   pub length-in-use : (cs : List ℕ) → length cs ≡ 6 → length (in_use L cs) ≡ L
   length-in-use cs e = length-map (drop (6 - L) cs) _ ∙ length-drop (6 - L) cs ∙ omega (arith, e)
 
-  pub in-use-at : (cs : List ℕ) → length cs ≡ 6 → (i : ℕ) → i < L → get_or cs (6 - L + i) 0 % 2 ^ 2 ^ (L - 1) ≡ get_or (in_use L cs) i 0
-  in-use-at cs e i h =
-      ap (λ (n : ℕ). n % 2 ^ 2 ^ (L - 1)) (sym (get_or-drop (6 - L) cs i 0))
-      ∙ sym (map_at (λ c. c % 2 ^ 2 ^ (L - 1)) (drop (6 - L) cs) i (omega (arith, length-drop (6 - L) cs, e)))
+  pub in-use-at : (cs : List ℕ) → length cs ≡ 6 → (i : ℕ) → i < L → get_or (drop (6 - L) cs) i 0 % 2 ^ 2 ^ (L - 1) ≡ get_or (in_use L cs) i 0
+  in-use-at cs e i h = sym (map_at (λ c. c % 2 ^ 2 ^ (L - 1)) (drop (6 - L) cs) i (omega (arith, length-drop (6 - L) cs, e)))
 
   module _ (m : ℕ) where
     stage-narrower : (d : ℕ) → decoded_stage 64 m d % 2 ^ 2 ^ (L - 1) ≡ decoded_stage (2 ^ L) m d

@@ -1,39 +1,35 @@
 -- What the calls answer, by the tests that the code makes: whether controls fit, the lowest refusal (demand 1), the networks, prepared ones, the decoder.
 -- Assumes nothing.
-use mathlib.Core.Path.{◌≡◌, refl, sym, ◌∙◌, ap, ap₂}
+use mathlib.Core.Path.{◌≡◌, refl, sym, ◌∙◌, ap}
 use mathlib.Core.Bool.{Bool, true, false, not, cond, ◌&&◌, true≢false}
-use mathlib.Core.List.{List, [], ◌∷◌, reverse}
-use Prim.Native.Nat.{ℕ, zero, suc, ◌+◌, ◌-◌, ◌*◌, ◌/◌, ◌%◌, ◌^◌, ◌<◌, ◌≤◌}
+use mathlib.Core.List.{List, [], ◌∷◌}
+use Prim.Native.Nat.{ℕ, zero, suc, ◌+◌, ◌-◌, ◌*◌, ◌/◌, ◌^◌, ◌<◌, ◌≤◌}
 use native.Mathlib.Omega.{arith}
 use native.Mathlib.Decide.{dec_lt}
-use native.Mathlib.Nat.{pow-succ', mod-eq_of_lt, one-mul, zero-add, add-zero}
+use native.Mathlib.Nat.{pow-succ', zero-add, add-zero}
 use native.Mathlib.Numerals.{add-one}
-use lib.Dec.{eqb, ltb}
+use lib.Dec.{eqb}
 use lib.Bits.{bit_or, or_zero_l, or_add_and, and_le_r}
-use lib.ListN.{length, get_or, take, drop, replicate, drop_of_length-le}
-use Rattle.network.proofs.MaskRouting.{length-decode}
-use lib.Pow.{pow_mono}
-use lib.Seq.{drop-cons, take_at}
-use mir.Val.{Fits}
-use mir.Syntax.{w32}
-use borrow.Author.Tests.{eq-eqb, ne_eqb, lt-ltb, le-ltb, ltb-true, not-false}
-use Rattle.bits.specs.Refusal.{log_of, accepted, fits, lowest, AnswersLowest}
+use lib.ListN.{length, get_or, drop, replicate}
+use lib.Seq.{drop-cons}
+use borrow.Author.Tests.{ne_eqb, lt-ltb, ltb-true, not-false}
+use Rattle.std.specs.Prelude.{Ok, Err}
+use Rattle.bits.specs.declared.Refusal.{Refusal}
+use Rattle.bits.specs.Refusal.{number_of, log_of, accepted, fits, lowest, AnswersLowest}
+use Rattle.bits.proofs.Numbers.{number-refused}
 use Rattle.bits.proofs.Refusals.{log-width, is-width, not-width, answers-lowest, none-applies, both, shr-fits}
 use Rattle.network.specs.declared.Controls.{Controls}
 use Rattle.network.specs.declared.Carried.{Carried}
 use Rattle.network.specs.declared.Prepared.{Prepared}
 use Rattle.network.specs.declared.Decoded.{Decoded}
 use Rattle.network.specs.Word.{prepared_of}
-use Rattle.network.specs.Decoder.{decode_of, decode_inverse_of}
-use Rattle.network.specs.Calls.{used_bits, controls_fit, network_conditions, network_refusal, network_answer, prepare_answer, six, controls, decode_conditions, decode_refusal, decode_answer}
+use Rattle.network.specs.Decoder.{decode_of, decode_inverse_of, in_use}
+use Rattle.network.specs.Calls.{used_bits, controls_fit, network_conditions, network_refusal, network_answer, carried_by, prepare_answer, controls, decoded_with, decode_conditions, decode_refusal, decode_answer, no_controls}
+use Rattle.network.proofs.Narrower.{decode-narrower}
 
 and_assoc : (a b c : Bool) → ((a && b) && c) ≡ (a && (b && c))
 and_assoc true b c = refl
 and_assoc false b c = refl
-
-and-true : (a : Bool) → (a && true) ≡ a
-and-true true = refl
-and-true false = refl
 
 or-none : (a b : ℕ) → eqb (bit_or a b) 0 ≡ (eqb a 0 && eqb b 0)
 or-none a b = by (dec_lt 0 a)
@@ -47,16 +43,6 @@ or-none a b = by (dec_lt 0 a)
 -- the control bits in use
 
 module _ (L at : ℕ) where
-  pub used-some : at < L → L ≤ 6 → 1 * 2 ^ (L - 1) % 2 ^ 32 ≡ used_bits L at
-  used-some h l =
-      let e : suc (L - 1) ≡ L = omega arith in
-      let k : L - 1 ≤ 5 = omega arith in
-      let p : 2 ^ L ≡ 2 * 2 ^ (L - 1) = ap (λ (n : ℕ). 2 ^ n) (sym e) ∙ pow-succ' 2 (L - 1) in
-      rw (lt-ltb at L h, one-mul, mod-eq_of_lt {n = 2 ^ (L - 1)} {m = 2 ^ 32} (omega (arith, pow_mono k))) (omega (arith, p))
-
-  pub used-none : L ≤ at → 0 ≡ used_bits L at
-  used-none h = rw (le-ltb at L h)
-
   fit-step : (cs : List ℕ) → at < length cs
       → controls_fit L at (drop at cs) ≡ (fits (used_bits L at) (get_or cs at 0) && controls_fit L (at + 1) (drop (at + 1) cs))
   fit-step cs h = rw (add-one at, drop-cons cs at 0)
@@ -68,16 +54,6 @@ module _ (L at : ℕ) where
       ∙ ap (λ (n : ℕ). fits n (get_or cs at 0) && controls_fit L (at + 1) (drop (at + 1) cs)) (sym e)
       ∙ ap (λ (t : Bool). t && controls_fit L (at + 1) (drop (at + 1) cs)) f)
 
-  fit-end : (cs : List ℕ) → length cs ≤ at → controls_fit L at (drop at cs) ≡ true
-  fit-end cs h = rw (drop_of_length-le cs h)
-
-  pub used-lt : L ≤ 6 → used_bits L at < 64
-  used-lt h = by (ltb at L)
-    where
-      by : (t : Bool) → cond t (2 ^ L / 2) 0 < 64
-      by true = omega (arith, pow_mono h)
-      by false = omega arith
-
   -- the unused bits of one stage more, gathered
   pub fit-turn : (cs : List ℕ) → at < length cs → (found : ℕ) {u : ℕ} → u ≡ used_bits L at
       → (eqb (bit_or found (get_or cs at 0 / 2 ^ u)) 0 && controls_fit L (at + 1) (drop (at + 1) cs)) ≡ (eqb found 0 && controls_fit L at (drop at cs))
@@ -87,9 +63,6 @@ module _ (L at : ℕ) where
       ap (λ (t : Bool). t && rest) (or-none found unused)
       ∙ and_assoc (eqb found 0) (eqb unused 0) rest
       ∙ ap (λ (t : Bool). eqb found 0 && t) (fit-now cs h e (sym (shr-fits (get_or cs at 0) u)))
-
-  pub fit-last : (cs : List ℕ) → length cs ≤ at → (found : ℕ) → (eqb found 0 && controls_fit L at (drop at cs)) ≡ eqb found 0
-  fit-last cs h found = ap (λ (t : Bool). eqb found 0 && t) (fit-end cs h) ∙ and-true (eqb found 0)
 
 -- by the width of each stage
 pub each-fit : (L j : ℕ) (cs : List ℕ) → ((i : ℕ) → i < length cs → get_or cs i 0 < 2 ^ used_bits L (j + i)) → controls_fit L j cs ≡ true
@@ -114,20 +87,10 @@ control-lt L h_l cs n e i h =
 
 -- the widths
 
-pub no-log : (w : ℕ) → (w ≡ 8 → ⊥) → (w ≡ 16 → ⊥) → (w ≡ 32 → ⊥) → (w ≡ 64 → ⊥) → log_of w ≡ 0
-no-log w a b c d = rw (ne_eqb w 8 a, ne_eqb w 16 b, ne_eqb w 32 c, ne_eqb w 64 d)
-
 -- neither 8 nor 16
 module _ (w : ℕ) (h : accepted w ≡ true) (a : w ≡ 8 → ⊥) (b : w ≡ 16 → ⊥) where
   log-else : {t : Bool} → eqb w 32 ≡ t → log_of w ≡ cond t 5 (cond (eqb w 64) 6 0)
   log-else q = rw (ne_eqb w 8 a, ne_eqb w 16 b, q)
-
-  pub is_32 : w < 64 → 5 ≡ log_of w
-  is_32 l = by (eqb w 32) refl
-    where
-      by : (t : Bool) → eqb w 32 ≡ t → 5 ≡ log_of w
-      by true q = sym (log-else q)
-      by false q = absurd (true≢false (sym h ∙ not-width w (log-else q ∙ rw (ne_eqb w 64 (λ e. omega arith)))))
 
   pub is_64 : (w ≡ 32 → ⊥) → 6 ≡ log_of w
   is_64 n = by (eqb w 64) refl
@@ -157,23 +120,11 @@ module _ (w : ℕ) (cs : List ℕ) (x : ℕ) where
       let n = none-applies (network_conditions w cs x) (omega arith) e in
       (not-false _ n.0, ltb-true x (2 ^ w) (not-false _ n.1.0), not-false _ n.1.1.0)
 
-  pub network-limits : {n l : ℕ} → n ≡ network_refusal w cs x → n ≡ 0 → l ≡ log_of w → (l ≤ 6) × (x < 2 ^ 2 ^ l) × (controls_fit l 0 cs ≡ true)
-  network-limits e z q =
-      let i = network-within (sym e ∙ z) in
-      let l = log-width w i.0 in
-      (omega (arith, l.2), rw q (rw l.0 at i.1), rw q i.2)
-
-  pub width-accepted : {n : ℕ} → n ≡ network_refusal w cs x → n ≡ 0 → accepted w ≡ true
-  width-accepted e z = (network-within (sym e ∙ z)).0
+  pub network-limits : {l : ℕ} → 0 ≡ network_refusal w cs x → l ≡ log_of w → (x < 2 ^ 2 ^ l) × (controls_fit l 0 cs ≡ true)
+  network-limits e q = let i = network-within (sym e) in (rw q (rw (log-width w i.0).0 at i.1), rw q i.2)
 
   pub width-refused : log_of w ≡ 0 → 1 ≡ network_refusal w cs x
   width-refused e = sym (network-refusal-by (not-width w e) refl refl)
-
-  -- at width 64 every control bit is used, and every call is carried out
-  pub whole-carried : length cs ≡ 6 → ((i : ℕ) → Fits w32 (get_or cs i 0)) → x < 2 ^ 64 → w ≡ 64 → 0 ≡ network_refusal w cs x
-  whole-carried n u h e =
-      let used = each-fit 6 0 cs (λ i l. rw (zero-add i, lt-ltb i 6 (omega arith)) (u i).fits) in
-      sym (network-refusal-by {a = true} {f = true} {g = true} (rw e) (rw e (lt-ltb x (2 ^ 64) h)) (rw e used))
 
 -- demand 1, of both networks
 pub network-lowest : (f : ℕ → List ℕ → ℕ → ℕ) (w : ℕ) (k : Controls) (x : ℕ)
@@ -189,14 +140,14 @@ module _ (f : ℕ → List ℕ → ℕ → ℕ) (w : ℕ) (k : Controls) (x : �
   unfolding network_answer
   network-is a h g = rw (network-refusal-by w k.stages x a (lt-ltb x (2 ^ w) h) g)
 
-  module _ {n : ℕ} (e : n ≡ network_refusal w k.stages x) where
-    pub network-refused : (n ≡ 0 → ⊥) → ◌≡◌ {A = Carried} (record { refusal = n; word = 0 }) (network_answer f w k x)
-    unfolding network_answer
-    network-refused z = rw (← e, ne_eqb n 0 z)
+  -- by the outcome
+  pub network-refused : (r : Refusal) → number_of r ≡ network_refusal w k.stages x → carried_by (Err r) ≡ network_answer f w k x
+  unfolding network_answer
+  network-refused r e = rw (← e, number-refused r)
 
-    pub network-done : n ≡ 0 → (l : ℕ) {y : ℕ} → l ≡ log_of w → y ≡ f l k.stages x → ◌≡◌ {A = Carried} (record { refusal = 0; word = y }) (network_answer f w k x)
-    unfolding network_answer
-    network-done z l q y = rw (← e, eq-eqb n 0 z, y, q)
+  pub network-done : 0 ≡ network_refusal w k.stages x → {l y : ℕ} → l ≡ log_of w → y ≡ f l k.stages x → carried_by (Ok y) ≡ network_answer f w k x
+  unfolding network_answer
+  network-done e q y = rw (← e, y, q)
 
 -- a call that prepares a network
 
@@ -208,15 +159,16 @@ prepare-lowest b w k =
     answers-lowest (network_conditions w k.stages 0) (omega arith) (λ (a : Prepared). a.refusal) (λ n. record { refusal = n; swaps = replicate 6 0 })
     (record { refusal = 0; swaps = prepared_of b (log_of w) k.stages }) refl (λ n. refl)
 
-module _ (b : Bool) (w : ℕ) (k : Controls) {n : ℕ} (e : n ≡ network_refusal w k.stages 0) where
-  pub prepare-refused : (n ≡ 0 → ⊥) → ◌≡◌ {A = Prepared} (record { refusal = n; swaps = replicate 6 0 }) (prepare_answer b w k)
+module _ (b : Bool) (w : ℕ) (k : Controls) where
+  pub prepare-refused : (r : Refusal) → network_refusal w k.stages 0 ≡ number_of r
+      → ◌≡◌ {A = Prepared} (record { refusal = number_of r; swaps = replicate 6 0 }) (prepare_answer b w k)
   unfolding prepare_answer
-  prepare-refused z = rw (← e, ne_eqb n 0 z)
+  prepare-refused r e = rw (e, number-refused r)
 
-  pub prepare-done : n ≡ 0 → {ws : List ℕ} → ws ≡ prepared_of b (log_of w) k.stages
+  pub prepare-done : network_refusal w k.stages 0 ≡ 0 → {ws : List ℕ} → ws ≡ prepared_of b (log_of w) k.stages
       → ◌≡◌ {A = Prepared} (record { refusal = 0; swaps = ws }) (prepare_answer b w k)
   unfolding prepare_answer
-  prepare-done z y = rw (← e, eq-eqb n 0 z, y)
+  prepare-done e y = rw (e, y)
 
 -- a call of the decoder
 
@@ -232,30 +184,16 @@ module _ (w m : ℕ) where
       answers-lowest (decode_conditions w m) (omega arith) (λ (a : Decoded). a.refusal) (λ n. record { refusal = n; butterfly = controls []; inverse = controls [] })
       (record { refusal = 0; butterfly = controls (decode_of (log_of w) m); inverse = controls (decode_inverse_of (log_of w) m) }) refl (λ n. refl)
 
-  module _ {n : ℕ} (e : n ≡ decode_refusal w m) where
-    pub decode-refused : (n ≡ 0 → ⊥)
-        → ◌≡◌ {A = Decoded} (record { refusal = n; butterfly = controls []; inverse = controls [] }) (decode_answer w m)
-    unfolding decode_answer
-    decode-refused z = rw (← e, ne_eqb n 0 z)
+  pub decode-refused : (r : Refusal) → number_of r ≡ decode_refusal w m → no_controls r ≡ decode_answer w m
+  unfolding decode_answer
+  decode-refused r e = rw (← e, number-refused r)
 
-    pub decode-accepted : n ≡ 0 → accepted w ≡ true
-    unfolding decode_refusal
-    decode-accepted z = not-false _ (none-applies (decode_conditions w m) (omega arith) (sym e ∙ z)).0
+  pub decode-accepted : 0 ≡ decode_refusal w m → accepted w ≡ true
+  unfolding decode_refusal
+  decode-accepted e = not-false _ (none-applies (decode_conditions w m) (omega arith) (sym e)).0
 
-    pub decode-done : n ≡ 0 → {l : ℕ} {r : Decoded} → l ≡ log_of w
-        → r ≡ record { refusal = 0; butterfly = controls (decode_of l m); inverse = controls (decode_inverse_of l m) } → r ≡ decode_answer w m
-    unfolding decode_answer
-    decode-done z {l} q d =
-        d
-        ∙ ap (λ (k : ℕ). record { refusal = 0; butterfly = controls (decode_of k m); inverse = controls (decode_inverse_of k m) }) q
-        ∙ rw (← e, eq-eqb n 0 z)
-
--- both networks' controls from the butterfly's
-pub both-decoded : (l m : ℕ) {cs ds : List ℕ} → cs ≡ six (decode_of l m) → ds ≡ six (reverse (take l cs))
-    → ◌≡◌ {A = Decoded} (record { refusal = 0; butterfly = record { stages = cs }; inverse = record { stages = ds } })
-    (record { refusal = 0; butterfly = controls (decode_of l m); inverse = controls (decode_inverse_of l m) })
-unfolding decode_inverse_of
-both-decoded l m c d =
-    let t : take l (six (decode_of l m)) ≡ decode_of l m = take_at (decode_of l m) (replicate (6 - length (decode_of l m)) 0) l (length-decode l m) in
-    ap₂ (λ (a b : List ℕ). record { refusal = 0; butterfly = record { stages = a }; inverse = record { stages = b } }) c
-    (d ∙ ap (λ (xs : List ℕ). six (reverse (take l xs))) c ∙ ap (λ (xs : List ℕ). six (reverse xs)) t)
+  pub decode-done : 0 ≡ decode_refusal w m → (l : ℕ) {cs : List ℕ} → l ≡ log_of w → cs ≡ decode_of 6 m → decoded_with (in_use l cs) ≡ decode_answer w m
+  unfolding decode_answer decode_inverse_of
+  decode-done e k q c =
+      let l = log-width w (decode-accepted e) in
+      rw (q, c, decode-narrower (log_of w) (omega (arith, l.1)) (omega (arith, l.2)) m, ← e)

@@ -1,7 +1,7 @@
 -- Six stages at width 64 stand for the stages in use at any width: the others pass every bit. Assumes nothing.
 use mathlib.Core.Path.{◌≡◌, refl, sym, ◌∙◌, ap, ap₂}
 use mathlib.Core.Bool.{Bool, true, false, cond}
-use mathlib.Core.List.{List, [], ◌∷◌, ◌++◌, append-nil, reverse, reverse-cons}
+use mathlib.Core.List.{List, [], ◌∷◌, ◌++◌, reverse, reverse-cons}
 use Prim.Native.Nat.{ℕ, zero, suc, ◌+◌, ◌-◌, ◌*◌, ◌%◌, ◌^◌, ◌<◌, ◌≤◌}
 use native.Mathlib.Omega.{arith}
 use lib.ListN.{length, take, drop, replicate, take-append-drop, length-replicate, length-reverse, length-append}
@@ -11,8 +11,7 @@ use lib.Seq.{length-take-le}
 use Rattle.bits.specs.Bit.{bit}
 use Rattle.bits.proofs.Word.{bit-ones, ext}
 use Rattle.network.specs.Stage.{source, stage, travel, falling, rising}
-use Rattle.network.specs.Calls.{six}
-use Rattle.network.specs.Word.{swaps_of, swaps_at, exchanges_of, all_pass, by_index, prepared_of, distances, travel_of}
+use Rattle.network.specs.Word.{swaps_of, swaps_at, exchanges_of, exchanges, all_pass, by_index, prepared_of, distances, travel_of}
 use Rattle.network.proofs.Index.{place_at, on-places, block-lt, source-at}
 use Rattle.network.proofs.Travel.{Fits, AllFit, bit-stage, stage-lt, travel-lt, travel-back, travel-below, travel-wider, falling-fit, rising-fit, distances-fit, length-falling, drop-falling, length-rising, length-distances, reverse-rising}
 use Rattle.network.proofs.PairsExchanged.{exchange-stage}
@@ -109,9 +108,6 @@ in_use_lem L h_l cs {x} hx =
 
 -- What the code computes: the six exchanges under the swaps by index in the table, from the widest or (true) from the narrowest.
 
-abbrev pub exchanges : Bool → List ℕ → ℕ → ℕ
-exchanges b ws x = exchanges_of (distances b 6) (cond b (reverse ws) ws) x
-
 -- the stages in use, from the widest
 abbrev pub used : Bool → ℕ → List ℕ → List ℕ
 used b L cs = cond b (reverse (take L cs)) (take L cs)
@@ -166,11 +162,3 @@ module _ (L : ℕ) (h_l : L ≤ 6) (cs : List ℕ) (hc : length cs ≡ 6) where
         six-stages b (omega (arith, pow_mono (pow_mono h_l)))
         ∙ travel-wider (pow_mono h_l) (distances b L) (take L cs) (distances-fit b L (omega arith)) h
         ∙ used-only x
-
-  module _ {x : ℕ} (h : x < 2 ^ 2 ^ L) where
-    -- by the steps of the code
-    pub sent : (b : Bool) {bs ws : List ℕ} {y : ℕ} → bs ≡ by_index b L cs → ws ≡ swaps_at (falling 6) bs → y ≡ exchanges b ws x → y ≡ travel_of b L cs x
-    sent b p q r = r ∙ ap (λ (ws : List ℕ). exchanges b ws x) (q ∙ ap (swaps_at (falling 6)) p) ∙ six-same b h
-
-pub six-whole : (cs : List ℕ) → length cs ≡ 6 → six cs ≡ cs
-six-whole cs e = rw e (append-nil cs)

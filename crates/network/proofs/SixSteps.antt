@@ -1,14 +1,14 @@
 -- What the loops over the six stages, and over those in use, do: the swaps of each stage, one exchange more, the stage at an index of the table. Assumes nothing.
 use mathlib.Core.Path.{◌≡◌, refl, sym, ◌∙◌, ap}
 use mathlib.Core.Bool.{Bool, true, false, cond}
-use mathlib.Core.List.{List, [], ◌∷◌, reverse, reverse-append}
+use mathlib.Core.List.{List, [], ◌∷◌, reverse}
 use Prim.Native.Nat.{ℕ, zero, suc, ◌+◌, ◌-◌, ◌^◌, ◌<◌, ◌≤◌}
 use native.Mathlib.Omega.{arith}
-use native.Mathlib.Nat.{not-suc-le-zero}
+use native.Mathlib.Nat.{not-suc-le-zero, zero-add}
 use native.Mathlib.Numerals.{add-one}
-use lib.ListN.{length, get_or, take, drop, replicate, length-replicate, get_or-append, get_or-replicate, drop_of_length-le}
+use lib.ListN.{length, get_or, drop, replicate, length-replicate, drop_of_length-le, length-reverse}
 use lib.Pow.{pow_mono}
-use lib.Seq.{take-suc, drop-cons, get_or-append-add, get_or-take}
+use lib.Seq.{drop-cons, get_or-append-add, get_or-take}
 use Rattle.network.specs.Stage.{stage, travel, falling}
 use Rattle.network.specs.Word.{swaps_of, swaps_at, exchange_of, exchanges_of, all_pass, by_index, distances, travel_of}
 use Rattle.network.proofs.Travel.{length-falling, reverse-falling, length-distances, distances-fit, travel-wider}
@@ -37,38 +37,9 @@ length-swaps (d ∷ ds) (c ∷ cs) e = ap suc (length-swaps ds cs (omega arith))
 pub length-six : (cs : List ℕ) → length cs ≡ 6 → length (swaps_at (falling 6) cs) ≡ 6
 length-six cs e = length-swaps (falling 6) cs (e ∙ sym (length-falling 6)) ∙ length-falling 6
 
--- one exchange more, forth and back
-
-module _ (ds ss : List ℕ) (i x : ℕ) (h : i < length ds) (l : i < length ss) where
-  exchanges-forth : exchanges_of (drop (i + 1) ds) (drop (i + 1) ss) (exchange_of (get_or ds i 0) (get_or ss i 0) x) ≡ exchanges_of (drop i ds) (drop i ss) x
-  unfolding exchanges_of
-  exchanges-forth = rw (add-one i, drop-cons ds i 0, drop-cons ss i 0)
-
-  exchanges-back : exchanges_of (reverse (take i ds)) (reverse (take i ss)) (exchange_of (get_or ds i 0) (get_or ss i 0) x)
-      ≡ exchanges_of (reverse (take (i + 1) ds)) (reverse (take (i + 1) ss)) x
-  unfolding exchanges_of
-  exchanges-back = rw (add-one i, take-suc ds i 0, take-suc ss i 0, reverse-append (take i ds), reverse-append (take i ss))
-
-module _ (ss : List ℕ) (l : length ss ≡ 6) (i x : ℕ) (h : i < 6) {y : ℕ} (e : y ≡ exchange_of (2 ^ (5 - i)) (get_or ss i 0) x) where
-  here : y ≡ exchange_of (get_or (falling 6) i 0) (get_or ss i 0) x
-  here = e ∙ ap (λ (d : ℕ). exchange_of d (get_or ss i 0) x) (sym (falling-at 6 i h))
-
-  pub butterfly-turn : exchanges_of (drop (i + 1) (falling 6)) (drop (i + 1) ss) y ≡ exchanges_of (drop i (falling 6)) (drop i ss) x
-  butterfly-turn =
-      ap (exchanges_of (drop (i + 1) (falling 6)) (drop (i + 1) ss)) here ∙ exchanges-forth (falling 6) ss i x (omega (arith, length-falling 6)) (omega arith)
-
-  pub inverse-turn : exchanges_of (reverse (take i (falling 6))) (reverse (take i ss)) y
-      ≡ exchanges_of (reverse (take (i + 1) (falling 6))) (reverse (take (i + 1) ss)) x
-  inverse-turn =
-      ap (exchanges_of (reverse (take i (falling 6))) (reverse (take i ss))) here ∙ exchanges-back (falling 6) ss i x (omega (arith, length-falling 6)) (omega arith)
-
 -- the stages in use by index
 
 module _ (b : Bool) (L : ℕ) (h_l : L ≤ 6) (cs : List ℕ) (hc : length cs ≡ 6) where
-  pub index-none : (i : ℕ) → i < 6 - L → all_pass ≡ get_or (by_index b L cs) i 0
-  index-none i h =
-      sym (get_or-append (replicate (6 - L) all_pass) (used b L cs) 0 i (omega (arith, length-replicate (6 - L) all_pass)) ∙ get_or-replicate (6 - L) i all_pass 0 h)
-
   pub index-here : (i : ℕ) {v : ℕ} → 6 - L ≤ i → i < 6 → v ≡ cond b (5 - i) (i - (6 - L)) → get_or cs v 0 ≡ get_or (by_index b L cs) i 0
   index-here i {v} lo hi e =
       let k = 6 - L in
@@ -97,6 +68,41 @@ distance-of true L at h l e =
 distance-of false L at h l e =
     let q : 5 - (6 - L + at) ≡ L - 1 - at = omega arith in
     ap (λ (i : ℕ). 2 ^ (5 - i)) e ∙ ap (λ (i : ℕ). 2 ^ i) q ∙ sym (falling-at L at h)
+
+-- one exchange more
+
+module _ (b : Bool) (ws : List ℕ) where
+  abbrev pub exchanges_left : ℕ → ℕ → ℕ
+  exchanges_left at x = exchanges_of (drop at (distances b 6)) (drop at (cond b (reverse ws) ws)) x
+
+  module _ (l : length ws ≡ 6) where
+    swaps-of : (at : ℕ) → at < 6 → get_or ws (cond b (5 - at) (6 - 6 + at)) 0 ≡ get_or (cond b (reverse ws) ws) at 0
+    swaps-of at h = by b
+      where
+        by : (t : Bool) → get_or ws (cond t (5 - at) (6 - 6 + at)) 0 ≡ get_or (cond t (reverse ws) ws) at 0
+        by true = sym (reverse-at ws at (omega arith) ∙ ap (λ (n : ℕ). get_or ws (n - 1 - at) 0) l)
+        by false = ap (λ (n : ℕ). get_or ws n 0) (zero-add at)
+
+    length-words : length (cond b (reverse ws) ws) ≡ 6
+    length-words = by b
+      where
+        by : (t : Bool) → length (cond t (reverse ws) ws) ≡ 6
+        by true = length-reverse ws ∙ l
+        by false = l
+
+    pub exchange-turn : (at x : ℕ) → at < 6 → {v y : ℕ} → v ≡ cond b (5 - at) (6 - 6 + at) → y ≡ exchange_of (2 ^ (5 - v)) (get_or ws v 0) x
+        → exchanges_left (at + 1) y ≡ exchanges_left at x
+    unfolding exchanges_of
+    exchange-turn at x h {v} e r =
+        let s = ap (λ (i : ℕ). get_or ws i 0) e ∙ swaps-of at h in
+        let y = r ∙ ap (λ (d : ℕ). exchange_of d (get_or ws v 0) x) (distance-of b 6 at h (omega arith) e)
+        ∙ ap (λ (s : ℕ). exchange_of (get_or (distances b 6) at 0) s x) s in
+        ap (exchanges_left (at + 1)) y
+        ∙ rw (add-one at, drop-cons (distances b 6) at 0 (omega (arith, length-distances b 6)), drop-cons (cond b (reverse ws) ws) at 0 (omega (arith, length-words)))
+
+  pub exchange-end : (at x : ℕ) → 6 ≤ at → exchanges_left at x ≡ x
+  unfolding exchanges_of
+  exchange-end at x h = rw (drop_of_length-le (distances b 6) {i = at} (omega (arith, length-distances b 6)))
 
 -- one stage more
 

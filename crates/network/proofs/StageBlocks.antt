@@ -15,7 +15,7 @@ use Rattle.bits.proofs.Word.{bit-lt, bit-shr, bit-shl-below, bit-shl-from, bit-a
 use Rattle.bits.proofs.ByteCounts.{count-below}
 use Rattle.bits.proofs.UpTo.{map_at}
 use Rattle.network.specs.Stage.{falling}
-use Rattle.network.specs.Decoder.{turn, turned, control_at, decoded_stage, decode_of}
+use Rattle.network.specs.Decoder.{turn, turned, control_at, control_by, decoded_stage, decode_of}
 use Rattle.network.proofs.Turn.{turned_bit}
 use Rattle.network.proofs.Travel.{length-falling}
 use Rattle.network.proofs.TableSteps.{falling-at}
@@ -83,9 +83,6 @@ block-small d j n pos h l =
     (omega arith, omega arith, omega arith)
 
 -- the control bits of one block more, by the counts below each place
-
-abbrev pub control_by : ℕ → List ℕ → ℕ → ℕ
-control_by d cs s = bit (turned d (get_or cs (2 * (s / d) * d + d) 0)) (s % d)
 
 module _ (d : ℕ) (cs : List ℕ) (j : ℕ) (pos : 0 < d) (small : d * (j + 1) ≤ 32) where
   abbrev block : ℕ

@@ -1,26 +1,23 @@
 -- By the table of distances and pairs: one turn of the spreading, the distance of a stage by its index. Assumes nothing.
 use mathlib.Core.Path.{◌≡◌, sym, ◌∙◌, ap}
-use Prim.Native.Nat.{ℕ, zero, suc, ◌+◌, ◌-◌, ◌*◌, ◌%◌, ◌^◌, ◌<◌, ◌≤◌}
+use Prim.Native.Nat.{ℕ, zero, suc, ◌+◌, ◌-◌, ◌*◌, ◌%◌, ◌^◌, ◌<◌}
 use native.Mathlib.Omega.{arith}
 use native.Mathlib.Nat.{not-suc-le-zero, pow-succ'}
 use lib.Bits.{bit_and, bit_or}
 use lib.ListN.{get_or}
-use lib.Pow.{pow_mono, pow_pos}
+use lib.Pow.{pow_pos}
 use Rattle.network.specs.Stage.{falling}
 use Rattle.network.specs.Word.{spread_of}
 use Rattle.network.proofs.PairsExchanged.{spread-step}
 use Rattle.network.proofs.Table.{distance_table, pair_table, distance-at, pair-at}
 
-pub distance-lt : (k : ℕ) → k < 6 → get_or distance_table k 0 < 64
-distance-lt k h = let l : 5 - k ≤ 5 = omega arith in omega (arith, distance-at k h, pow_mono l)
-
-pub spread-turn : (at c : ℕ) {bits : ℕ} → at < 5 → bits ≡ spread_of (2 ^ (5 - at)) c
-    → bit_and (bit_or bits (bits * 2 ^ get_or distance_table (at + 1) 0 % 2 ^ 64)) (get_or pair_table (at + 1) 0) ≡ spread_of (2 ^ (5 - (at + 1))) c
+pub spread-turn : (at c : ℕ) {bits : ℕ} → at < 6 → bits ≡ spread_of (2 ^ (6 - at)) c
+    → bit_and (bit_or bits (bits * 2 ^ get_or distance_table at 0 % 2 ^ 64)) (get_or pair_table at 0) ≡ spread_of (2 ^ (6 - (at + 1))) c
 spread-turn at c h e =
-    let k : suc (5 - (at + 1)) ≡ 5 - at = omega arith in
-    let w : 2 ^ (5 - at) ≡ 2 * 2 ^ (5 - (at + 1)) = ap (λ (n : ℕ). 2 ^ n) (sym k) ∙ pow-succ' 2 (5 - (at + 1)) in
-    rw (e, distance-at (at + 1) (omega arith), pair-at (at + 1) (omega arith), w)
-    (spread-step (2 ^ (5 - (at + 1))) c (pow_pos (5 - (at + 1))))
+    let k : suc (5 - at) ≡ 6 - at = omega arith in
+    let n : 6 - (at + 1) ≡ 5 - at = omega arith in
+    let w : 2 ^ (6 - at) ≡ 2 * 2 ^ (5 - at) = ap (λ (n : ℕ). 2 ^ n) (sym k) ∙ pow-succ' 2 (5 - at) in
+    rw (e, distance-at at h, pair-at at h, w, n) (spread-step (2 ^ (5 - at)) c (pow_pos (5 - at)))
 
 -- the distance of a stage by its index
 

@@ -1,6 +1,7 @@
 -- What the calls on the networks and the decoder answer. Assumes nothing.
-use Rattle.std.specs.Prelude.{◌≡◌, ℕ, suc, ◌-◌, ◌/◌, ◌^◌, ◌<◌, Bool, true, not, cond, ◌&&◌, List, [], ◌∷◌, ◌++◌, eqb, ltb, length, get_or, replicate}
-use Rattle.bits.specs.Refusal.{log_of, accepted, fits, lowest}
+use Rattle.std.specs.Prelude.{◌≡◌, ℕ, suc, ◌-◌, ◌/◌, ◌^◌, ◌<◌, Bool, true, not, cond, ◌&&◌, List, [], ◌∷◌, ◌++◌, eqb, ltb, length, get_or, replicate, reverse, Result, Ok, Err}
+use Rattle.bits.specs.declared.Refusal.{Refusal}
+use Rattle.bits.specs.Refusal.{number_of, log_of, accepted, fits, lowest}
 use Rattle.network.specs.declared.Controls.{Controls}
 use Rattle.network.specs.declared.Carried.{Carried}
 use Rattle.network.specs.declared.Prepared.{Prepared}
@@ -34,6 +35,11 @@ network_answer f w k x =
     cond (eqb (network_refusal w k.stages x) 0) (record { refusal = 0; word = f (log_of w) k.stages x })
     (record { refusal = network_refusal w k.stages x; word = 0 })
 
+-- the same, by its outcome
+abbrev pub carried_by : Result ℕ Refusal → Carried
+carried_by (Ok word) = record { refusal = 0; word = word }
+carried_by (Err refusal) = record { refusal = number_of refusal; word = 0 }
+
 -- the whole answer of a call that prepares the inverse (true) or the butterfly. Refused is what a call on the word zero is, which is of every width:
 -- 1, the width; 3, the controls
 unfoldable pub prepare_answer : Bool → ℕ → Controls → Prepared
@@ -54,6 +60,14 @@ six cs = cs ++ replicate (6 - length cs) 0
 
 abbrev pub controls : List ℕ → Controls
 controls cs = record { stages = six cs }
+
+-- the answer with the butterfly's controls, and the inverse's
+abbrev pub decoded_with : List ℕ → Decoded
+decoded_with cs = record { refusal = 0; butterfly = controls cs; inverse = controls (reverse cs) }
+
+-- the answer with a refusal
+abbrev pub no_controls : Refusal → Decoded
+no_controls refusal = record { refusal = number_of refusal; butterfly = controls []; inverse = controls [] }
 
 -- "One decoder call answers both sets."
 unfoldable pub decode_answer : ℕ → ℕ → Decoded

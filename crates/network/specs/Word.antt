@@ -54,6 +54,10 @@ prepared_of b L cs = swaps_at (falling 6) (by_index b L cs)
 abbrev pub distances : Bool → ℕ → List ℕ
 distances b L = cond b (rising L) (falling L)
 
+-- the exchanges of a prepared inverse (true), from the narrowest stage, or of a prepared butterfly, from the widest
+abbrev pub exchanges : Bool → List ℕ → ℕ → ℕ
+exchanges b ss x = exchanges_of (distances b 6) (cond b (reverse ss) ss) x
+
 -- through the inverse (true) or the butterfly
 unfoldable pub travel_of : Bool → ℕ → List ℕ → ℕ → ℕ
 travel_of b L cs x = travel (2 ^ L) (distances b L) cs x

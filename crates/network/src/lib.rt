@@ -1,13 +1,15 @@
 // Stages, both networks and the decoder from a mask to their controls (paper 01, 'Columns' and 'Decoder'; demand 3, its first half).
 #![tactic(auto)]
 
-ghost use Rattle.std.specs.Prelude.{◌≡◌, ℕ, ◌+◌, ◌-◌, ◌*◌, ◌^◌, ◌≤◌, ◌<◌, cond, true, false, reverse, get_or, take};
-ghost use Rattle.bits.specs.Bit.{of_bits, counts_below};
-ghost use Rattle.bits.specs.Refusal.{log_of, accepted};
+ghost use Rattle.std.specs.Prelude.{◌≡◌, ◌+◌, ◌-◌, ◌*◌, ◌^◌, ◌≤◌, ◌<◌, Bool, cond, true, false, reverse, take, MatchResult};
+ghost use Rattle.bits.specs.Bit.{of_bits};
+ghost use Rattle.bits.specs.Refusal.{log_of, number_of, number_in};
 ghost use Rattle.network.specs.Stage.{falling, rising, butterfly_of, inverse_of};
-ghost use Rattle.network.specs.Word.{spread_of, swaps_of, swaps_at, exchange_of, exchanges_of, by_index, distances, travel_of};
-ghost use Rattle.network.specs.Decoder.{turned, control_at, decode_of, decode_inverse_of};
-ghost use Rattle.network.specs.Calls.{used_bits, controls_fit, network_refusal, network_answer, prepare_answer, six, controls, decode_refusal, decode_answer};
+ghost use Rattle.network.specs.Word.{spread_of, swaps_of, swaps_at, exchange_of, exchanges_of, exchanges, by_index, travel_of};
+ghost use Rattle.network.specs.Decoder.{turned, control_by, decode_of, decode_inverse_of, in_use};
+ghost use Rattle.network.specs.Calls.{used_bits, controls_fit, network_refusal, network_answer, carried_by, prepare_answer, six, decode_refusal, decode_answer, no_controls, decoded_with};
+
+use bits::Refusal;
 
 // The control bits of one network: six stages in the direction of travel (paper 01: settings). One passes, zero swaps.
 #[repr(C)]
@@ -16,7 +18,7 @@ pub struct Controls {
     pub stages: [u32; 6],
 }
 
-// What a network answers: 0 and the word, or the number of the refusal and a zero.
+// What a network answers: 0 and the word, or the number of the refusal and a zero. (No Result: it is what C gets, as the next two.)
 #[repr(C)]
 #[derive(Clone, Copy)]
 pub struct Carried {
@@ -42,7 +44,8 @@ pub struct Decoded {
     pub inverse: Controls,
 }
 
-// The distances of the stages at width 64, and for each the word that marks the lower place of every pair.
+// The distances of the stages at width 64, and for each the word that marks the lower place of every pair. (Two arrays: both are public.
+// That an index of theirs is below 6 stands in five contracts: a type of index would be taken apart in each.)
 pub const DISTANCES: [u64; 6] = [32, 16, 8, 4, 2, 1];
 
 pub const PAIRS: [u64; 6] = [
@@ -61,9 +64,7 @@ fn spread(first: usize, index: usize, stage: u32) -> u64
     ensures { result ≡ spread_of (2 ^ (5 - index)) stage }
 {
     let mut bits = stage as u64;
-    let mut at = first;
-    while at < index {
-        at += 1;
+    for at in first + 1..index + 1 {
         bits = (bits | (bits << DISTANCES[at])) & PAIRS[at];
     }
     bits
@@ -96,47 +97,205 @@ fn exchange(index: usize, swaps: u64, word: u64) -> u64
     exchange_marked(distance, swaps, word)
 }
 
-// internal: a stage in use. Its number in the direction of travel.
-fn stage_at(rising: bool, log: usize, index: usize) -> usize
-    requires { (log ≤ 6) × (6 - log ≤ index) × (index < 6) }
-    ensures { (result < 6) × (result ≡ cond rising (5 - index) (index - (6 - log))) }
-{
-    if rising {
-        return 5 - index;
-    }
-    index - (6 - log)
+// An accepted width and its base-two logarithm, the number of its stages: they are the last ones of the table.
+#[derive(Clone, Copy)]
+struct Width {
+    bits: u32,
+    log: usize,
+    ghost positive: { 0 < log },
+    ghost in_table: { log ≤ 6 },
+    ghost is_log: { log ≡ log_of bits },
 }
 
-// internal: a logarithm of at most 6. All six stages of the inverse (rising) or of the butterfly by their index in the table; one that is
-// not in use passes every bit.
-fn by_index(rising: bool, log: usize, stages: [u32; 6]) -> [u32; 6]
-    requires { log ≤ 6 }
-    ensures { result ≡ by_index rising log stages }
-{
-    let mut placed = [0xFFFFFFFFu32; 6];
-    let mut index = 6 - log;
-    while index < 6 {
-        placed[index] = stages[stage_at(rising, log, index)];
-        index += 1;
-    }
-    placed
+// The direction of a network: which of its stages a word passes first.
+trait Direction {
+    ghost is_rising: { Bool };
+
+    // internal: a stage in use, by its index in the table. Its number in the direction of travel.
+    fn stage_at(width: Width, index: usize) -> usize
+        requires { (6 - width.log ≤ index) × (index < 6) }
+        ensures { (result < 6) × (result ≡ cond is_rising (5 - index) (index - (6 - width.log))) };
+
+    // internal: a stage in use, by its number in the direction of travel. Its index in the table.
+    fn index_of(width: Width, at: usize) -> usize
+        requires { at < width.log }
+        ensures { (6 - width.log ≤ result) × (result < 6) × (result ≡ cond is_rising (5 - at) (6 - width.log + at)) };
 }
 
-// internal: an accepted width. The same by each width, so that the compiler knows the stages in use.
-fn in_table(rising: bool, width: u32, stages: [u32; 6]) -> [u32; 6]
-    requires { accepted width ≡ true }
-    ensures { result ≡ by_index rising (log_of width) stages }
-{
-    if width == 8 {
-        return by_index(rising, 3, stages);
+// The butterfly: the widest stage first.
+struct Falling;
+
+impl Direction for Falling {
+    ghost is_rising = { false };
+
+    fn stage_at(width: Width, index: usize) -> usize {
+        index - (6 - width.log)
     }
-    if width == 16 {
-        return by_index(rising, 4, stages);
+
+    fn index_of(width: Width, at: usize) -> usize {
+        6 - width.log + at
     }
-    if width == 32 {
-        return by_index(rising, 5, stages);
+}
+
+// The inverse: the narrowest stage first.
+struct Rising;
+
+impl Direction for Rising {
+    ghost is_rising = { true };
+
+    fn stage_at(_: Width, index: usize) -> usize {
+        5 - index
     }
-    by_index(rising, 6, stages)
+
+    fn index_of(_: Width, at: usize) -> usize {
+        5 - at
+    }
+}
+
+impl Width {
+    ghost use Rattle.network.specs.declared.Width.{Width};
+
+    const EIGHT: Width = Width { bits: 8, log: 3 };
+
+    const SIXTEEN: Width = Width { bits: 16, log: 4 };
+
+    const THIRTY_TWO: Width = Width { bits: 32, log: 5 };
+
+    const SIXTY_FOUR: Width = Width { bits: 64, log: 6 };
+
+    // internal: a call at an accepted width; any other is refused. Each width has its own branch, so that the compiler knows the stages in
+    // use. (64 apart: four tests of equality become a jump through a table, which costs more at every width, docs/DECISIONS.md.)
+    fn call<T, F: FnOnce(Width) -> Result<T, Refusal>>(bits: u32, at: F) -> Result<T, Refusal>
+        requires { F.IsAlwaysCallable at }
+        ensures accepted { 0 < log_of bits → ((width : Width) × (width.bits ≡ bits) × F.post at width result) }
+        ensures refused { log_of bits ≡ 0 → result ≡ Err Refusal.Width }
+    {
+        if bits < 64 {
+            return match bits {
+                8 => at(Width::EIGHT),
+                16 => at(Width::SIXTEEN),
+                32 => at(Width::THIRTY_TWO),
+                _ => Err(Refusal::Width),
+            };
+        }
+        if bits == 64 {
+            return at(Width::SIXTY_FOUR);
+        }
+        Err(Refusal::Width)
+    }
+
+    // All six stages of a network by their index in the table; one that is not in use passes every bit.
+    fn by_index<D: Direction>(self, stages: [u32; 6]) -> [u32; 6]
+        ensures { result ≡ by_index D.is_rising self.log stages }
+    {
+        let mut placed = [0xFFFFFFFFu32; 6];
+        for index in 6 - self.log..6 {
+            placed[index] = stages[D::stage_at(self, index)];
+        }
+        placed
+    }
+
+    // internal: controls that fit the width and a word of it. Through the network, by the stages in use alone.
+    fn send<D: Direction>(self, stages: [u32; 6], word: u64) -> u64
+        requires { (word < 2 ^ 2 ^ self.log) × (controls_fit self.log 0 stages ≡ true) }
+        ensures { result ≡ travel_of D.is_rising self.log stages word }
+    {
+        let mut carried = word;
+        for at in 0..self.log {
+            let index = D::index_of(self, at);
+            carried = exchange(index, swaps(6 - self.log, index, stages[at]), carried);
+        }
+        carried
+    }
+
+    // How many control bits stage `at` uses.
+    fn used_bits(self, at: usize) -> u32
+        ensures { result ≡ used_bits self.log at }
+    {
+        if at < self.log {
+            return 1 << (self.log - 1);
+        }
+        0
+    }
+
+    // Whether no unused control bit is one. (All are joined, so that no branch hangs on one.)
+    fn is_used_only(self, stages: [u32; 6]) -> bool
+        ensures { result ≡ controls_fit self.log 0 stages }
+    {
+        let mut unused: u64 = 0;
+        for (at, stage) in stages.iter().enumerate() {
+            unused |= (*stage as u64) >> self.used_bits(at);
+        }
+        unused == 0
+    }
+
+    // The lowest refusal of a call on a network, if there is one.
+    fn check(self, stages: [u32; 6], word: u64) -> Result<(), Refusal>
+        ensures { number_in result ≡ network_refusal self.bits stages word }
+    {
+        if !bits::is_within(self.bits, word) {
+            return Err(Refusal::Above);
+        }
+        if !self.is_used_only(stages) {
+            return Err(Refusal::Unused);
+        }
+        Ok(())
+    }
+
+    // A call on a network.
+    fn carry<D: Direction>(self, controls: Controls, word: u64) -> Result<u64, Refusal>
+        ensures { carried_by result ≡ network_answer (travel_of D.is_rising) self.bits controls word }
+    {
+        let stages = controls.stages;
+        self.check(stages, word)?;
+        Ok(self.send::<D>(stages, word))
+    }
+
+    // The stages that a call which prepares a network makes the swaps of, by their index in the table.
+    fn place<D: Direction>(self, stages: [u32; 6]) -> Result<[u32; 6], Refusal>
+        ensures { MatchResult result (λ placed. (network_refusal self.bits stages 0 ≡ 0) × (placed ≡ by_index D.is_rising (log_of self.bits) stages))
+            (λ refusal. network_refusal self.bits stages 0 ≡ number_of refusal) }
+    {
+        self.check(stages, 0)?;
+        Ok(self.by_index::<D>(stages))
+    }
+
+    // Of the butterfly's controls at width 64: the last stages, and of each the bits in use.
+    fn narrowed(self, stages: [u32; 6]) -> [u32; 6]
+        ensures { result ≡ six (in_use self.log stages) }
+    {
+        let used = 1 << (1u64 << (self.log - 1));
+        let mut out = [0u32; 6];
+        for (at, stage) in stages[6 - self.log..].iter().enumerate() {
+            out[at] = ((*stage as u64) % used) as u32;
+        }
+        out
+    }
+
+    // The stages in use in reversed order, zeros after them. (By the index: std's `reverse` is of a whole array.)
+    fn reversed(self, stages: [u32; 6]) -> [u32; 6]
+        ensures { result ≡ six (reverse (take self.log stages)) }
+    {
+        let mut out = [0u32; 6];
+        for at in 0..self.log {
+            out[at] = stages[self.log - 1 - at];
+        }
+        out
+    }
+
+    // The decoder's answer, from the butterfly's controls at width 64.
+    fn both_networks(self, wide: [u32; 6]) -> Decoded
+        ensures { result ≡ decoded_with (in_use self.log wide) }
+    {
+        let stages = self.narrowed(wide);
+        Decoded {
+            refusal: bits::CARRIED_OUT,
+            butterfly: Controls { stages },
+            inverse: Controls {
+                stages: self.reversed(stages),
+            },
+        }
+    }
 }
 
 // internal: the swaps of six stages by their index in the table. They serve any number of words.
@@ -144,253 +303,115 @@ pub fn prepare(stages: [u32; 6]) -> [u64; 6]
     ensures { result ≡ swaps_at (falling 6) stages }
 {
     let mut words = [0u64; 6];
-    let mut index: usize = 0;
-    while index < 6 {
-        words[index] = swaps(0, index, stages[index]);
-        index += 1;
+    for (index, stage) in stages.iter().enumerate() {
+        words[index] = swaps(0, index, *stage);
     }
     words
+}
+
+// The word through six stages in the direction of a network: the pairs whose lower places each word marks are exchanged.
+fn exchange_all<D: Direction>(words: [u64; 6], word: u64) -> u64
+    ensures { result ≡ exchanges D.is_rising words word }
+{
+    let mut carried = word;
+    for at in 0..6 {
+        let index = D::index_of(Width::SIXTY_FOUR, at);
+        carried = exchange(index, words[index], carried);
+    }
+    carried
 }
 
 // The word through six stages, the widest first: the pairs whose lower places each word marks are exchanged.
 pub fn butterfly_prepared(words: [u64; 6], word: u64) -> u64
     ensures { result ≡ exchanges_of (falling 6) words word }
 {
-    let mut carried = word;
-    let mut index: usize = 0;
-    while index < 6 {
-        carried = exchange(index, words[index], carried);
-        index += 1;
-    }
-    carried
+    exchange_all::<Falling>(words, word)
 }
 
 // The word through the same six stages, the narrowest first.
 pub fn inverse_prepared(words: [u64; 6], word: u64) -> u64
     ensures { result ≡ exchanges_of (rising 6) (reverse words) word }
 {
-    let mut carried = word;
-    let mut index: usize = 6;
-    while 0 < index {
-        index -= 1;
-        carried = exchange(index, words[index], carried);
-    }
-    carried
+    exchange_all::<Rising>(words, word)
 }
 
-// internal: a stage in use, by its number in the direction of travel. Its index in the table.
-fn index_of(rising: bool, log: usize, at: usize) -> usize
-    requires { (at < log) × (log ≤ 6) }
-    ensures { (6 - log ≤ result) × (result < 6) × (2 ^ (5 - result) ≡ get_or (distances rising log) at 0) }
-{
-    if rising {
-        return 5 - at;
-    }
-    6 - log + at
-}
-
-// internal: a logarithm of at most 6, controls that fit it and a word of that width. Through the inverse (rising) or the butterfly, by the
-// stages in use alone.
-fn send(rising: bool, log: usize, stages: [u32; 6], word: u64) -> u64
-    requires { (log ≤ 6) × (word < 2 ^ 2 ^ log) × (controls_fit log 0 stages ≡ true) }
-    ensures { result ≡ travel_of rising log stages word }
-{
-    let mut carried = word;
-    let mut at: usize = 0;
-    while at < log {
-        let index = index_of(rising, log, at);
-        carried = exchange(index, swaps(6 - log, index, stages[at]), carried);
-        at += 1;
-    }
-    carried
-}
-
-// internal: a logarithm of at most 6. How many control bits stage `at` uses.
-fn used_bits(log: usize, at: usize) -> u32
-    requires { log ≤ 6 }
-    ensures { result ≡ used_bits log at }
-{
-    if at < log {
-        return 1 << (log - 1);
-    }
-    0
-}
-
-// internal: a logarithm of at most 6. Whether no unused control bit is one.
-fn is_used_only(log: usize, stages: [u32; 6]) -> bool
-    requires { log ≤ 6 }
-    ensures { result ≡ controls_fit log 0 stages }
-{
-    let mut unused: u64 = 0;
-    let mut at: usize = 0;
-    while at < 6 {
-        unused = unused | ((stages[at] as u64) >> used_bits(log, at));
-        at += 1;
-    }
-    unused == 0
-}
-
-// internal: an accepted width and its logarithm. The lowest refusal of a call on a network at that width.
-fn refusal_at(width: u32, log: usize, stages: [u32; 6], word: u64) -> u8
-    requires { (0 < log) × (log ≤ 6) × (log ≡ log_of width) }
-    ensures { result ≡ network_refusal width stages word }
-{
-    if !bits::is_within(width, word) {
-        return bits::ABOVE;
-    }
-    if !is_used_only(log, stages) {
-        return bits::UNUSED;
-    }
-    bits::CARRIED_OUT
-}
-
-// internal: below width 64. The lowest refusal of a call on a network; 0 if it is carried out. By each width, so that the compiler knows
-// which bits to test.
-fn network_refusal(width: u32, stages: [u32; 6], word: u64) -> u8
-    requires { width < 64 }
-    ensures { result ≡ network_refusal width stages word }
-{
-    if width == 8 {
-        return refusal_at(8, 3, stages, word);
-    }
-    if width == 16 {
-        return refusal_at(16, 4, stages, word);
-    }
-    if width == 32 {
-        return refusal_at(32, 5, stages, word);
-    }
-    bits::WIDTH
-}
-
-// internal: the word through the butterfly at width 64, where every control bit is used and every word fits
-fn butterfly_64(stages: [u32; 6], word: u64) -> u64
-    ensures { result ≡ butterfly_of 6 stages word }
-{
-    butterfly_prepared(prepare(stages), word)
-}
-
-// internal: the word through the inverse at width 64
-fn inverse_64(stages: [u32; 6], word: u64) -> u64
-    ensures { result ≡ inverse_of 6 stages word }
-{
-    inverse_prepared(prepare(reversed(6, stages)), word)
-}
-
-// The answer of a call on a network.
+// The answer of a call on a network. (By the number: it is public, and its promise stands.)
 pub fn answer(refusal: u8, word: u64) -> Carried
     ensures { result ≡ record { refusal = refusal; word = word } }
 {
     Carried { refusal, word }
 }
 
-// The answer of a call that prepares a network.
+impl From<Result<u64, Refusal>> for Carried {
+    ghost from_gives = { λ outcome carried. carried ≡ carried_by outcome };
+
+    fn from(outcome: Result<u64, Refusal>) -> Carried {
+        match outcome {
+            Ok(word) => answer(bits::CARRIED_OUT, word),
+            Err(refusal) => answer(u8::from(refusal), 0),
+        }
+    }
+}
+
+// The answer of a call that prepares a network. (In one place, which the edit prepare_refuses_everything turns.)
 fn prepare_answer(refusal: u8, swaps: [u64; 6]) -> Prepared
     ensures { result ≡ record { refusal = refusal; swaps = swaps } }
 {
     Prepared { refusal, swaps }
 }
 
-// internal: below width 64. By each width, so that the compiler knows the stages in use.
-fn butterfly_below(width: u32, controls: Controls, word: u64) -> Carried
-    requires { width < 64 }
-    ensures { result ≡ network_answer butterfly_of width controls word }
+// A call on a network, at any width.
+fn carry<D: Direction>(width: u32, controls: Controls, word: u64) -> Result<u64, Refusal>
+    ensures { carried_by result ≡ network_answer (travel_of D.is_rising) width controls word }
 {
-    let stages = controls.stages;
-    let refusal = network_refusal(width, stages, word);
-    if refusal != 0 {
-        return answer(refusal, 0);
-    }
-    if width == 8 {
-        return answer(0, send(false, 3, stages, word));
-    }
-    if width == 16 {
-        return answer(0, send(false, 4, stages, word));
-    }
-    answer(0, send(false, 5, stages, word))
+    Width::call(width, |at| at.carry::<D>(controls, word))
 }
 
 // The word through the butterfly: distances w/2, .., 2, 1.
 pub fn butterfly(width: u32, controls: Controls, word: u64) -> Carried
     ensures { result ≡ network_answer butterfly_of width controls word }
 {
-    if width < 64 {
-        return butterfly_below(width, controls, word);
-    }
-    let stages = controls.stages;
-    if width == 64 {
-        return answer(0, butterfly_64(stages, word));
-    }
-    answer(bits::WIDTH, 0)
-}
-
-// internal: below width 64. By each width, as `butterfly_below`.
-fn inverse_below(width: u32, controls: Controls, word: u64) -> Carried
-    requires { width < 64 }
-    ensures { result ≡ network_answer inverse_of width controls word }
-{
-    let stages = controls.stages;
-    let refusal = network_refusal(width, stages, word);
-    if refusal != 0 {
-        return answer(refusal, 0);
-    }
-    if width == 8 {
-        return answer(0, send(true, 3, stages, word));
-    }
-    if width == 16 {
-        return answer(0, send(true, 4, stages, word));
-    }
-    answer(0, send(true, 5, stages, word))
+    Carried::from(carry::<Falling>(width, controls, word))
 }
 
 // The word through the inverse butterfly: distances 1, 2, .., w/2.
 pub fn inverse(width: u32, controls: Controls, word: u64) -> Carried
     ensures { result ≡ network_answer inverse_of width controls word }
 {
-    if width < 64 {
-        return inverse_below(width, controls, word);
-    }
-    let stages = controls.stages;
-    if width == 64 {
-        return answer(0, inverse_64(stages, word));
-    }
-    answer(bits::WIDTH, 0)
+    Carried::from(carry::<Rising>(width, controls, word))
 }
 
-// The lowest refusal of a call that prepares a network; 0 if it is carried out.
-fn prepare_refusal(width: u32, stages: [u32; 6]) -> u8
-    ensures { result ≡ network_refusal width stages 0 }
+// The same, at any width.
+fn in_table<D: Direction>(width: u32, stages: [u32; 6]) -> Result<[u32; 6], Refusal>
+    ensures { MatchResult result (λ placed. (network_refusal width stages 0 ≡ 0) × (placed ≡ by_index D.is_rising (log_of width) stages))
+        (λ refusal. network_refusal width stages 0 ≡ number_of refusal) }
 {
-    if width < 64 {
-        return network_refusal(width, stages, 0);
-    }
-    if width == 64 {
-        return bits::CARRIED_OUT;
-    }
-    bits::WIDTH
+    Width::call(width, |at| at.place::<D>(stages))
+}
+
+// A call that prepares a network.
+fn prepare_network<D: Direction>(width: u32, controls: Controls) -> Prepared
+    ensures { result ≡ prepare_answer D.is_rising width controls }
+{
+    let placed = match in_table::<D>(width, controls.stages) {
+        Ok(placed) => placed,
+        Err(refusal) => return prepare_answer(u8::from(refusal), [0u64; 6]),
+    };
+    prepare_answer(bits::CARRIED_OUT, prepare(placed))
 }
 
 // The butterfly, prepared: `butterfly_prepared` then sends any number of words through it.
 pub fn prepare_butterfly(width: u32, controls: Controls) -> Prepared
     ensures { result ≡ prepare_answer false width controls }
 {
-    let stages = controls.stages;
-    let refusal = prepare_refusal(width, stages);
-    if refusal != 0 {
-        return prepare_answer(refusal, [0u64; 6]);
-    }
-    prepare_answer(0, prepare(in_table(false, width, stages)))
+    prepare_network::<Falling>(width, controls)
 }
 
 // The inverse, prepared: `inverse_prepared` then sends any number of words through it.
 pub fn prepare_inverse(width: u32, controls: Controls) -> Prepared
     ensures { result ≡ prepare_answer true width controls }
 {
-    let stages = controls.stages;
-    let refusal = prepare_refusal(width, stages);
-    if refusal != 0 {
-        return prepare_answer(refusal, [0u64; 6]);
-    }
-    prepare_answer(0, prepare(in_table(true, width, stages)))
+    prepare_network::<Rising>(width, controls)
 }
 
 // internal: a distance of 1 to 32. As many zeros turned left `count` steps: as many ones come in at the right and go out at the left.
@@ -407,14 +428,12 @@ fn turned_bits(distance: u64, count: u8) -> u64
 // block are turned by the count below the middle of its pairs.
 fn stage_bits(distance: u64, blocks: u64, counts: [u8; 64]) -> u64
     requires { (0 < distance) × (distance * blocks ≤ 32) }
-    ensures { (m : ℕ) → counts ≡ counts_below m 0 → result ≡ of_bits (distance * blocks) (control_at distance m) }
+    ensures { result ≡ of_bits (distance * blocks) (control_by distance counts) }
 {
     let mut out: u64 = 0;
-    let mut block: u64 = 0;
-    while block < blocks {
+    for block in 0..blocks {
         let count = counts[(2 * block * distance + distance) as usize];
         out += turned_bits(distance, count) << (distance * block);
-        block += 1;
     }
     out
 }
@@ -425,102 +444,59 @@ pub fn decode_64(mask: u64) -> [u32; 6]
 {
     let counts = bits::counts_below(mask, 0);
     let mut stages = [0u32; 6];
-    let mut at: usize = 0;
-    while at < 6 {
+    for at in 0..6 {
         stages[at] = stage_bits(1 << (5 - at), 1 << at, counts) as u32;
-        at += 1;
     }
     stages
-}
-
-// internal: a logarithm of 1 to 6, and the butterfly's controls for a mask at width 64. Those of the width: the last stages, and of each the
-// bits in use.
-fn narrowed(log: usize, stages: [u32; 6]) -> [u32; 6]
-    requires { (0 < log) × (log ≤ 6) }
-    ensures { (m : ℕ) → stages ≡ decode_of 6 m → result ≡ six (decode_of log m) }
-{
-    let used = 1 << (1u64 << (log - 1));
-    let mut out = [0u32; 6];
-    let mut at: usize = 0;
-    while at < log {
-        out[at] = ((stages[6 - log + at] as u64) % used) as u32;
-        at += 1;
-    }
-    out
-}
-
-// internal: a logarithm of at most 6. The stages in use in reversed order.
-fn reversed(log: usize, stages: [u32; 6]) -> [u32; 6]
-    requires { log ≤ 6 }
-    ensures { result ≡ six (reverse (take log stages)) }
-{
-    let mut out = [0u32; 6];
-    let mut at: usize = 0;
-    while at < log {
-        out[at] = stages[log - 1 - at];
-        at += 1;
-    }
-    out
 }
 
 // internal: the inverse's controls for a mask at width 64
 pub fn decode_inverse_64(mask: u64) -> [u32; 6]
     ensures { result ≡ decode_inverse_of 6 mask }
 {
-    reversed(6, decode_64(mask))
+    let mut stages = decode_64(mask);
+    stages.reverse();
+    stages
 }
 
-// The lowest refusal of a call of the decoder; 0 if it is carried out.
-fn decode_refusal(width: u32, mask: u64) -> u8
-    ensures { result ≡ decode_refusal width mask }
+// The lowest refusal of a call of the decoder, if there is one.
+fn check_mask(width: u32, mask: u64) -> Result<(), Refusal>
+    ensures { number_in result ≡ decode_refusal width mask }
 {
-    if bits::log_of(width) == 0 {
-        return bits::WIDTH;
-    }
+    bits::accept(bits::log_of(width))?;
     if !bits::is_within(width, mask) {
-        return bits::ABOVE;
+        return Err(Refusal::Above);
     }
-    bits::CARRIED_OUT
+    Ok(())
 }
 
-// internal: a logarithm of 1 to 6, and the butterfly's controls for a mask at width 64. The answer at the width.
-fn both_networks(log: usize, wide: [u32; 6]) -> Decoded
-    requires { (0 < log) × (log ≤ 6) }
-    ensures { (m : ℕ) → wide ≡ decode_of 6 m
-        → result ≡ record { refusal = 0; butterfly = controls (decode_of log m); inverse = controls (decode_inverse_of log m) } }
-{
-    let stages = narrowed(log, wide);
-    Decoded {
-        refusal: 0,
-        butterfly: Controls { stages },
-        inverse: Controls {
-            stages: reversed(log, stages),
-        },
+// A refused answer of the decoder.
+impl From<Refusal> for Decoded {
+    ghost from_gives = { λ refusal decoded. decoded ≡ no_controls refusal };
+
+    fn from(refusal: Refusal) -> Decoded {
+        let none = Controls { stages: [0u32; 6] };
+        Decoded {
+            refusal: u8::from(refusal),
+            butterfly: none,
+            inverse: none,
+        }
     }
 }
 
 // The controls of both networks that route by the mask: the butterfly scatters, the inverse gathers. By each width, so that the compiler
-// knows the stages in use.
+// knows the stages in use; not by `Width::call`, whose closure would have the whole decoder in each branch.
 pub fn decode(width: u32, mask: u64) -> Decoded
     ensures { result ≡ decode_answer width mask }
 {
-    let refused = decode_refusal(width, mask);
-    if refused != 0 {
-        return Decoded {
-            refusal: refused,
-            butterfly: Controls { stages: [0u32; 6] },
-            inverse: Controls { stages: [0u32; 6] },
-        };
+    if let Err(refusal) = check_mask(width, mask) {
+        return Decoded::from(refusal);
     }
     let wide = decode_64(mask);
-    if width == 8 {
-        return both_networks(3, wide);
+    match width {
+        8 => Width::EIGHT.both_networks(wide),
+        16 => Width::SIXTEEN.both_networks(wide),
+        32 => Width::THIRTY_TWO.both_networks(wide),
+        _ => Width::SIXTY_FOUR.both_networks(wide),
     }
-    if width == 16 {
-        return both_networks(4, wide);
-    }
-    if width == 32 {
-        return both_networks(5, wide);
-    }
-    both_networks(6, wide)
 }

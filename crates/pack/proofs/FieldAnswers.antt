@@ -1,5 +1,5 @@
 -- What the calls' answers come to, by the tests that the code makes. Assumes nothing.
-use mathlib.Core.Path.{◌≡◌, refl, sym, ◌∙◌, ap, ap₂}
+use mathlib.Core.Path.{◌≡◌, refl, sym, ◌∙◌, ap}
 use mathlib.Core.Bool.{Bool, false, not, cond, ◌||◌}
 use mathlib.Core.List.{List, [], ◌∷◌, ◌++◌}
 use Prim.Native.Nat.{ℕ, ◌-◌, ◌*◌, ◌≤◌}
@@ -9,7 +9,9 @@ use lib.Dec.{eqb, ltb}
 use lib.ListN.{length, take, drop, length-take, length-drop}
 use borrow.Rule.Slice.PartMut.{Post-is}
 use borrow.Author.Tests.{eq-eqb, ne_eqb, eqb-true, ltb-false, le-ltb, not-false}
-use Rattle.bits.specs.Refusal.{lowest, Rising, AnswersLowest, left_of}
+use Rattle.bits.specs.declared.Refusal.{Refusal}
+use Rattle.bits.specs.Refusal.{number_of, lowest, Rising, AnswersLowest, left_of}
+use Rattle.bits.proofs.Numbers.{number-above}
 use Rattle.bits.proofs.Refusals.{answers-leaving, left-done, left-refused, every-answer, lowest-more, none-applies, neither}
 use Rattle.pack.specs.declared.Packed.{Packed}
 use Rattle.bits.specs.Bit.{up_to}
@@ -60,14 +62,6 @@ module _ (k a b own other : ℕ) where
         le-ltb other (needed (k * (b - a))) w.room,
       )
 
-  -- what the code asks of a and b, and that the number of bits fits
-
-  pub both-within : InLimits k a b own other → (a ≤ b) × (b ≤ 2048)
-  both-within w = (w.start, omega (arith, w.end, w.own-limit))
-
-  pub bits_fit : InLimits k a b own other → k ≤ 64 → k * (b - a) ≤ 131072
-  bits_fit w h = bits-le h (omega (arith, both-within w))
-
 -- unpack: 9 and 10 first, then 11
 
 module _ (k a b own : ℕ) (ps : List ℕ) where
@@ -84,6 +78,10 @@ module _ (k a b own : ℕ) (ps : List ℕ) where
   unpack-refusal-by {n} {t} e f =
       (λ i. cond (eqb (e i) 0) (cond (f i) 11 0) (e i))
       ∙ sym (lowest-more 0 (fields_conditions k a b own (length ps)) ((11, not (eqb (spare_bits (k * (b - a)) ps) 0)) ∷ []) (omega arith))
+
+  -- a refusal by 9 or 10 is the call's
+  pub by-fields : (r : Refusal) → number_of r ≡ fields_refusal k a b own (length ps) → number_of r ≡ unpack_refusal k a b own ps
+  by-fields r e = rw (ne_eqb (number_of r) 0 (λ (z : number_of r ≡ 0). omega (arith, number-above r, z))) at (unpack-refusal-by e refl)
 
   pub by-none-spare : InLimits k a b own (length ps) → spare_bits (k * (b - a)) ps ≡ 0 → 0 ≡ unpack_refusal k a b own ps
   by-none-spare w z = unpack-refusal-by (by-none k a b own (length ps) w) (sym (ap not (eq-eqb (spare_bits (k * (b - a)) ps) 0 z)))
@@ -128,16 +126,17 @@ module _ (n k a b : ℕ) where
   pub answer-count-le : (fields_answer n k a b).count ≤ k
   answer-count-le = of-answer (λ (r : Packed). r.count ≤ k) (λ z. omega arith) (λ z. omega arith)
 
--- what a call answers and leaves, from what the code counted
-module _ {n k : ℕ} (a b : ℕ) {size number : ℕ} {r : Packed} (s : size ≡ k) (e : number ≡ n) (h : r ≡ fields_answer number size a b) (done out : List ℕ) where
-  answered : r ≡ fields_answer n k a b
-  answered = h ∙ ap₂ (λ (m j : ℕ). fields_answer m j a b) e s
+-- what a call with refusal n answers and leaves
+module _ (n k a b : ℕ) (done out : List ℕ) where
+  pub refused : (r : Refusal) → number_of r ≡ n → {answer : Packed} → answer ≡ record { refusal = number_of r; count = 0; bits = 0 }
+      → (answer ≡ fields_answer n k a b) × (out ≡ left_of n done out)
+  refused r e h =
+      let z : n ≡ 0 → ⊥ = λ z. omega (arith, number-above r, e, z) in
+      (h ∙ rw e (answer-refused n k a b z), sym (left-refused z done out))
 
-  pub refused : (number ≡ 0 → ⊥) → (r ≡ fields_answer n k a b) × (out ≡ left_of n done out)
-  refused z = (answered, sym (left-refused (λ q. z (e ∙ q)) done out))
-
-  pub carried-out : number ≡ 0 → {left : List ℕ} → left ≡ done → (r ≡ fields_answer n k a b) × (left ≡ left_of n done out)
-  carried-out z l = (answered, l ∙ sym (left-done (sym e ∙ z) done out))
+  pub carried-out : n ≡ 0 → {answer : Packed} → answer ≡ fields_answer 0 k a b → {left : List ℕ} → left ≡ done
+      → (answer ≡ fields_answer n k a b) × (left ≡ left_of n done out)
+  carried-out z h l = (h ∙ rw z refl, l ∙ sym (left-done z done out))
 
 -- the part of a list from a up to b
 

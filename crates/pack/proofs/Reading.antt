@@ -41,14 +41,13 @@ module _ (ps : List ℕ) where
 
     -- the bits held suffice
     module _ (l : size ≤ c.held) where
-      pub take-held : Awaits ps (n + size) (record { word = c.word; held = c.held - size; pending = c.pending / 2 ^ size })
+      pub take-held : (w : c.held - size < 64) → Awaits ps (n + size) (record { word = c.word; held = c.held - size; pending = c.pending / 2 ^ size; within = w })
       unfolding here
-      take-held =
+      take-held w =
           let r = c.held - size in
           let q : c.held ≡ size + r = omega arith in
           record {
             at = omega (arith, h.at);
-            within = omega (arith, h.within);
             bits = upper size r here (λ i. packed_bit ps (n + size + i)) q h.bits
                 (λ i. let v : n + (size + i) ≡ n + size + i = omega arith in ap (packed_bit ps) v);
           }
@@ -65,16 +64,15 @@ module _ (ps : List ℕ) where
           ∙ of_bits-same 64 (λ i. packed_bit ps (64 * c.word + i)) (λ i. packed_bit ps (n + (c.held + i)))
           (λ i _. let v : 64 * c.word + i ≡ n + (c.held + i) = omega (arith, h.at) in ap (packed_bit ps) v)
 
-      pub take_next : Awaits ps (n + size)
-          (record { word = c.word + 1; held = c.held + 64 - size; pending = x / 2 ^ 1 / 2 ^ (size - c.held - 1) })
+      pub take_next : (w : c.held + 64 - size < 64) → Awaits ps (n + size)
+          (record { word = c.word + 1; held = c.held + 64 - size; pending = x / 2 ^ 1 / 2 ^ (size - c.held - 1); within = w })
       unfolding here
-      take_next =
+      take_next w =
           let d = size - c.held in
           let r = c.held + 64 - size in
           let q : 64 ≡ d + r = omega arith in
           record {
             at = omega (arith, h.at);
-            within = omega arith;
             bits = shr-two x d (size - c.held - 1) (omega arith)
                 ∙ upper d r (λ i. here (c.held + i)) (λ i. packed_bit ps (n + size + i)) q above
                 (λ i. let v : n + (c.held + (d + i)) ≡ n + size + i = omega arith in ap (packed_bit ps) v);
@@ -83,7 +81,7 @@ module _ (ps : List ℕ) where
       pub take-joined : Reads ps n size (bit_or c.pending (x * 2 ^ c.held % 2 ^ 64))
       unfolding here
       take-joined =
-          let j = ap₂ (λ (p y : ℕ). bit_or p (y * 2 ^ c.held % 2 ^ 64)) h.bits above ∙ join-bits c.held 64 here (omega (arith, h.within)) in
+          let j = ap₂ (λ (p y : ℕ). bit_or p (y * 2 ^ c.held % 2 ^ 64)) h.bits above ∙ join-bits c.held 64 here (omega (arith, c.within)) in
           record {
             bits = λ i k.
                 ap (λ (y : ℕ). bit y i) j

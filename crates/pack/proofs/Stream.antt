@@ -71,40 +71,38 @@ module _ (c : Cursor) (size field : ℕ) (s : ℕ → ℕ) (n : ℕ) (old : List
 
     joined : bit_or c.pending (field * 2 ^ c.held % 2 ^ 64) ≡ of_bits (c.held + size) here % 2 ^ 64
     unfolding here
-    joined = ap₂ (λ (p x : ℕ). bit_or p (x * 2 ^ c.held % 2 ^ 64)) h.bits above ∙ (join-bits c.held size here (omega (arith, h.within)))
+    joined = ap₂ (λ (p x : ℕ). bit_or p (x * 2 ^ c.held % 2 ^ 64)) h.bits above ∙ (join-bits c.held size here (omega (arith, c.within)))
 
     -- it stays in the word begun
-    pub put-stays : c.held + size < 64
-        → Holds s (n + size) (record { word = c.word; held = c.held + size; pending = bit_or c.pending (field * 2 ^ c.held % 2 ^ 64) }) old out
+    pub put-stays : (l : c.held + size < 64)
+        → Holds s (n + size) (record { word = c.word; held = c.held + size; pending = bit_or c.pending (field * 2 ^ c.held % 2 ^ 64); within = l }) old out
     unfolding here
     put-stays l = record {
       at = omega (arith, h.at);
-      within = l;
       bits = joined ∙ of_bits_fits (c.held + size) here (omega arith);
       words = h.words;
     }
 
     -- it completes the word begun; the rest of it begins the next one
-    pub put-completes : size ≤ 64 → 64 ≤ c.held + size → c.word < length out
-        → Holds s (n + size) (record { word = c.word + 1; held = c.held + size - 64; pending = field / 2 ^ 1 / 2 ^ (63 - c.held) }) old
+    pub put-completes : (w : c.held + size - 64 < 64) → 64 ≤ c.held + size → c.word < length out
+        → Holds s (n + size) (record { word = c.word + 1; held = c.held + size - 64; pending = field / 2 ^ 1 / 2 ^ (63 - c.held); within = w }) old
         (set out c.word (bit_or c.pending (field * 2 ^ c.held % 2 ^ 64)))
     unfolding here word_at
-    put-completes u l k =
+    put-completes w l k =
         let d = 64 - c.held in
         let r = c.held + size - 64 in
-        let q : size ≡ d + r = omega (arith, h.within) in
+        let q : size ≡ d + r = omega (arith, c.within) in
         let t : c.held + size ≡ 64 + r = omega arith in
         let full : bit_or c.pending (field * 2 ^ c.held % 2 ^ 64) ≡ word_at s c.word =
         joined ∙ ap (λ (a : ℕ). of_bits a here % 2 ^ 64) t ∙ of_bits-low 64 r here
         in
         let rest : field / 2 ^ 1 / 2 ^ (63 - c.held) ≡ of_bits r (λ i. s (64 * (c.word + 1) + i)) =
-        shr-two field d (63 - c.held) (omega (arith, h.within))
+        shr-two field d (63 - c.held) (omega (arith, c.within))
         ∙ upper d r (λ i. here (c.held + i)) (λ i. s (64 * (c.word + 1) + i)) q above
-        (λ i. let v : 64 * c.word + (c.held + (d + i)) ≡ 64 * (c.word + 1) + i = omega (arith, h.within) in ap s v)
+        (λ i. let v : 64 * c.word + (c.held + (d + i)) ≡ 64 * (c.word + 1) + i = omega (arith, c.within) in ap s v)
         in
         record {
-          at = omega (arith, h.at, h.within);
-          within = omega (arith, h.within, l);
+          at = omega (arith, h.at, c.within);
           bits = rest;
           words = fill-next (word_at s) c.word old k h.words full;
         }

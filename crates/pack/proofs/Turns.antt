@@ -15,9 +15,8 @@ use Rattle.bits.proofs.UpTo.{map_at}
 use Rattle.gather.specs.Gather.{gather_of, scatter_of}
 use Rattle.pack.specs.declared.Cursor.{Cursor}
 use Rattle.pack.specs.declared.Pair.{Pair}
-use Rattle.pack.specs.declared.Taken.{Taken}
 use Rattle.pack.specs.Fields.{size_of, needed, fields_of, stream_bit, stream_of, word_at, pack_into, scattered_at}
-use Rattle.pack.specs.Cursor.{cursor_start, Holds, Puts, PutsPair, Gathers, finished, Awaits, Takes}
+use Rattle.pack.specs.Cursor.{IsStart, Holds, Puts, PutsPair, Gathers, finished, Awaits, Takes}
 use Rattle.bits.proofs.FilledLists.{length-overwritten, fill_none, fill-next}
 use Rattle.pack.proofs.Stream.{of_bits-none}
 use Rattle.pack.proofs.Reading.{scatter-read}
@@ -47,9 +46,13 @@ module _ (m : ℕ) (ws old : List ℕ) where
   abbrev stream : ℕ → ℕ
   stream = stream_of m ws
 
-  pub pack-starts : {c : Cursor} → c ≡ cursor_start → Holds stream (size_of m * 0) c old old
+  pub pack-starts : {c : Cursor} → IsStart c → Holds stream (size_of m * 0) c old old
   unfolding of_bits
-  pack-starts e = rw e record { at = omega arith; within = omega arith; bits = refl; words = fill_none (word_at stream) old }
+  pack-starts {c} s = record {
+    at = omega (arith, s.word, s.held);
+    bits = rw (s.pending, s.held) refl;
+    words = rw s.word (fill_none (word_at stream) old);
+  }
 
   pub stream-word : (f i : ℕ) → f < length ws → i < size_of m → stream (size_of m * f + i) ≡ bit (gather_of 64 m (get_or ws f 0)) i
   stream-word f i h l =
@@ -66,11 +69,10 @@ module _ (m : ℕ) (ws old : List ℕ) where
       (bit-of_bits (size_of m) g i l ∙ ap (λ (n : ℕ). n % 2) (stream-word f i h l) ∙ bit-mod-two (gather_of 64 m (get_or ws f 0)) i))
 
   -- the first word's field, in a cursor that has written nothing
-  pub pack-begins : {size field : ℕ} → 0 < length ws → size ≡ size_of m → size < 64 → field ≡ gather_of 64 m (get_or ws 0 0)
-      → Holds stream (size_of m * 1) (record { word = 0; held = size; pending = field }) old old
-  pack-begins {size} h e l f = record {
+  pub pack-begins : {size field : ℕ} → 0 < length ws → size ≡ size_of m → (w : size < 64) → field ≡ gather_of 64 m (get_or ws 0 0)
+      → Holds stream (size_of m * 1) (record { word = 0; held = size; pending = field; within = w }) old old
+  pack-begins {size} h e w f = record {
     at = omega arith;
-    within = l;
     bits = f ∙ rw (e) (field-bits 0 h ∙ of_bits-same (size_of m) (λ i. stream (size_of m * 0 + i)) (λ i. stream (64 * 0 + i))
         (λ i _. let q : size_of m * 0 + i ≡ 64 * 0 + i = omega arith in ap stream q));
     words = fill_none (word_at stream) old;
@@ -111,7 +113,7 @@ module _ (m : ℕ) (ws old : List ℕ) where
       unfolding word_at
       last_word =
           let g : ℕ → ℕ = λ i. stream (64 * c.word + i) in
-          let e : c.held + (64 - c.held) ≡ 64 = omega (arith, inv.within) in
+          let e : c.held + (64 - c.held) ≡ 64 = omega (arith, c.within) in
           let z = of_bits-none (64 - c.held) (λ i. g (c.held + i))
           (λ i _. stream_end (size_of m) (fields_of m ws) (64 * c.word + (c.held + i))
           (omega (arith, inv.at, ap (λ (n : ℕ). size_of m * n) (length-map ws (gather_of 64 m)))))
@@ -132,7 +134,7 @@ module _ (m : ℕ) (ws old : List ℕ) where
               let n : c.word ≡ needed (size_of m * length ws) = omega (arith, inv.at) in
               rw (eq-eqb c.held 0 z) (inv.words ∙ ap (λ (j : ℕ). overwritten j (word_at stream) old) n)
           by_cases (no z) =
-              let n : c.word + 1 ≡ needed (size_of m * length ws) = omega (arith, inv.at, inv.within, z) in
+              let n : c.word + 1 ≡ needed (size_of m * length ws) = omega (arith, inv.at, c.within, z) in
               rw (ne_eqb c.held 0 z)
               (fill-next (word_at stream) c.word old (last-room z) inv.words last_word
               ∙ ap (λ (j : ℕ). overwritten j (word_at stream) old) n)
@@ -140,21 +142,21 @@ module _ (m : ℕ) (ws old : List ℕ) where
 -- Unpacking.
 
 module _ (m : ℕ) (ps : List ℕ) where
-  pub unpack-starts : {c : Cursor} → c ≡ cursor_start → Awaits ps (size_of m * 0) c
+  pub unpack-starts : {c : Cursor} → IsStart c → Awaits ps (size_of m * 0) c
   unfolding of_bits
-  unpack-starts e = rw e record { at = omega arith; within = omega arith; bits = refl }
+  unpack-starts {c} s = record { at = omega (arith, s.word, s.held); bits = rw (s.pending, s.held) refl }
 
   pub unpack-room : {len i : ℕ} {c : Cursor} {size : ℕ} → needed (size_of m * len) ≤ length ps → i < len → Awaits ps (size_of m * i) c → size ≡ size_of m
       → c.held < size → c.word < length ps
   unpack-room {len} {i} {c} fits h inv e l = omega (arith, inv.at, next_field (size_of m) i len h)
 
-  module _ (i : ℕ) {c : Cursor} {size : ℕ} {r : Taken} (inv : Awaits ps (size_of m * i) c) (e : size ≡ size_of m) (t : Takes ps c size r) where
-    pub unpack-turn : Awaits ps (size_of m * (i + 1)) r.next
+  module _ (i : ℕ) {c : Cursor} {size x : ℕ} {r : Cursor} (inv : Awaits ps (size_of m * i) c) (e : size ≡ size_of m) (t : Takes ps c size x r) where
+    pub unpack-turn : Awaits ps (size_of m * (i + 1)) r
     unpack-turn =
         let n : size_of m * i + size ≡ size_of m * (i + 1) = omega arith in
         rw n at (t.next (size_of m * i) inv)
 
-    pub unpack-field : scatter_of 64 m r.field ≡ scattered_at m ps i
+    pub unpack-field : scatter_of 64 m x ≡ scattered_at m ps i
     unpack-field =
         let n : size_of m * i ≡ i * size_of m = omega arith in
         scatter-read ps m i n (rw e at (t.field (size_of m * i) inv))

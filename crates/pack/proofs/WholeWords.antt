@@ -1,22 +1,27 @@
 -- Fields of 64 bits are the words themselves. Assumes nothing.
-use mathlib.Core.Path.{◌≡◌, refl, sym, ◌∙◌, ap}
-use mathlib.Core.List.{List, ◌++◌}
+use mathlib.Core.Path.{◌≡◌, sym, ◌∙◌, ap}
+use mathlib.Core.List.{List, ◌++◌, append-nil}
 use Prim.Native.Nat.{ℕ, suc, ◌+◌, ◌*◌, ◌^◌, ◌<◌, ◌≤◌}
 use native.Mathlib.Omega.{arith}
-use native.Mathlib.Decide.{dec_lt}
-use lib.ListN.{length, get_or, drop, set}
+use lib.ListN.{length, get_or, take, drop, length-take, drop_of_length-le}
+use lib.Seq.{ext_get_or, get_or-take}
 use Rattle.bits.specs.Bit.{bit, rank, of_bits, up_to}
 use Rattle.bits.proofs.Word.{bit-lt, ext}
 use Rattle.bits.proofs.Rank.{rank-le, rank_between}
-use Rattle.bits.proofs.UpTo.{up_to-same}
+use Rattle.bits.proofs.UpTo.{length-up_to, get_or-up_to, up_to-same}
 use Rattle.gather.specs.Gather.{gather_of, scatter_of}
 use Rattle.gather.proofs.AnyWidth.{gather-lt, scatter-lt}
 use Rattle.gather.proofs.Theorems.{bit-gather, bit-scatter}
 use Rattle.pack.specs.Fields.{size_of, needed, stream_of, word_at, pack_into, scattered_at}
-use Rattle.pack.specs.Cursor.{Reads, Copies}
-use Rattle.bits.proofs.FilledLists.{fill_none, fill-next, fill-all}
+use Rattle.pack.specs.Cursor.{Reads}
 use Rattle.pack.proofs.Reading.{bit-packed, word-bits, scatter-read}
 use Rattle.pack.proofs.Turns.{field-bits}
+
+-- a list by its words
+up_to-own : (ws : List ℕ) → ws ≡ up_to (length ws) (λ i. get_or ws i 0)
+up_to-own ws =
+    ext_get_or 0 ws (up_to (length ws) (λ i. get_or ws i 0)) (sym (length-up_to (λ i. get_or ws i 0) (length ws)))
+    (λ i h. sym (get_or-up_to (λ i. get_or ws i 0) (length ws) i h))
 
 module _ (m : ℕ) (e : size_of m ≡ 64) where
   -- every place is marked, and of its own rank
@@ -37,40 +42,34 @@ module _ (m : ℕ) (e : size_of m ≡ 64) where
       bit-scatter 64 m x p l ∙ rw (rank-own p (omega arith)) (omega (arith, all-marked p l, bit-lt x p))
 
   -- the copy is what is packed
-  pub copied-packed : (ws old : List ℕ) {out : List ℕ} → Copies (length ws) ws old out → out ≡ pack_into m ws old
+  pub copied-packed : (ws old : List ℕ) → ((i : ℕ) → get_or ws i 0 < 2 ^ 64) → ws ++ drop (length ws) old ≡ pack_into m ws old
   unfolding pack_into word_at
-  copied-packed ws old c =
+  copied-packed ws old fit =
       let s = stream_of m ws in
       let n : needed (size_of m * length ws) ≡ length ws = rw e (omega arith) in
-      c.words
-      ∙ rw n
+      rw n
       (ap (λ (l : List ℕ). l ++ drop (length ws) old)
-      (up_to-same (length ws) (λ i. get_or ws i 0) (word_at s)
-      (λ i h. sym (gather-whole (c.fit i h)) ∙ field-bits m ws old i h ∙ ap (λ (k : ℕ). of_bits k (λ j. s (k * i + j))) e)))
+      (up_to-own ws
+      ∙ up_to-same (length ws) (λ i. get_or ws i 0) (word_at s)
+      (λ i h. sym (gather-whole (fit i)) ∙ field-bits m ws old i h ∙ ap (λ (k : ℕ). of_bits k (λ j. s (k * i + j))) e)))
 
   -- and what is unpacked
-  pub copied-unpacked : (ps old : List ℕ) {out : List ℕ} → Copies (length old) ps old out → out ≡ up_to (length old) (scattered_at m ps)
-  copied-unpacked ps old c =
-      c.words
-      ∙ fill-all (λ i. get_or ps i 0) (length old) old (omega arith)
-      ∙ up_to-same (length old) (λ i. get_or ps i 0) (scattered_at m ps)
+
+  taken-unpacked : (ps : List ℕ) (n : ℕ) → ((i : ℕ) → get_or ps i 0 < 2 ^ 64) → n ≤ length ps → take n ps ≡ up_to n (scattered_at m ps)
+  taken-unpacked ps n fit l =
+      ext_get_or 0 (take n ps) (up_to n (scattered_at m ps)) (length-take n ps ∙ omega (arith, length-up_to (scattered_at m ps) n))
       (λ f h.
-      let n : 64 * f ≡ f * size_of m = rw e (omega arith) in
+      let b : f < n = omega (arith, h, length-take n ps) in
+      let k : 64 * f ≡ f * size_of m = rw e (omega arith) in
       let r : Reads ps (64 * f) (size_of m) (get_or ps f 0) =
-      record { bits = λ i l. ap (λ (x : ℕ). bit x i) (word-bits ps f (c.fit f h)) ∙ bit-packed ps 64 (64 * f) i (omega arith) }
+      record { bits = λ i u. ap (λ (x : ℕ). bit x i) (word-bits ps f (fit f)) ∙ bit-packed ps 64 (64 * f) i (omega arith) }
       in
-      sym (scatter-whole (c.fit f h)) ∙ scatter-read ps m f n r)
+      get_or-take n ps f 0 b ∙ sym (scatter-whole (fit f)) ∙ scatter-read ps m f k r ∙ sym (get_or-up_to (scattered_at m ps) n f b))
 
--- the code's copy, word by word
-
-pub copies-none : (from old : List ℕ) → Copies 0 from old old
-copies-none from old = record { words = fill_none (λ i. get_or from i 0) old; fit = λ i h. absurd (omega arith) }
-
-pub copies-next : {i : ℕ} {from old out : List ℕ} → Copies i from old out → i < length out → get_or from i 0 < 2 ^ 64
-    → Copies (i + 1) from old (set out i (get_or from i 0))
-copies-next {i} {from} {old} c l b =
-    record { words = fill-next (λ j. get_or from j 0) i old l c.words refl; fit = λ j h. by_cases j h (dec_lt j i) }
-  where
-    by_cases : (j : ℕ) → j < i + 1 → Dec (j < i) → get_or from j 0 < 2 ^ 64
-    by_cases j h (yes k) = c.fit j k
-    by_cases j h (no n) = let q : j ≡ i = omega arith in rw q b
+  pub copied-unpacked : (ps old : List ℕ) → ((i : ℕ) → get_or ps i 0 < 2 ^ 64) → length old ≤ length ps
+      → take (length old) ps ++ drop (length (take (length old) ps)) old ≡ up_to (length old) (scattered_at m ps)
+  copied-unpacked ps old fit l =
+      let n = length old in
+      ap (λ (ys : List ℕ). take n ps ++ ys) (drop_of_length-le old {i = length (take n ps)} (omega (arith, length-take n ps)))
+      ∙ append-nil (take n ps)
+      ∙ taken-unpacked ps n fit l

@@ -1,20 +1,20 @@
 -- Where a cursor stands in a stream of bits. Internal: no answer of a call cites it. Assumes nothing.
-use Rattle.std.specs.Prelude.{◌≡◌, cond, List, ℕ, ◌+◌, ◌*◌, ◌%◌, ◌^◌, ◌<◌, eqb, length, get_or, set}
+use Rattle.std.specs.Prelude.{◌≡◌, cond, List, ℕ, ◌+◌, ◌*◌, ◌%◌, ◌<◌, eqb, length, get_or, set}
 use Rattle.bits.specs.Bit.{bit, of_bits, overwritten}
 use Rattle.gather.specs.Gather.{gather_of}
 use Rattle.pack.specs.declared.Cursor.{Cursor}
 use Rattle.pack.specs.declared.Pair.{Pair}
-use Rattle.pack.specs.declared.Taken.{Taken}
 use Rattle.pack.specs.Fields.{size_of, stream_of, word_at, packed_bit}
 
 -- nothing written or read
-abbrev pub cursor_start : Cursor
-cursor_start = record { word = 0; held = 0; pending = 0 }
+pub record IsStart (c : Cursor) : Type 0 where
+  pub word : c.word ≡ 0
+  pub held : c.held ≡ 0
+  pub pending : c.pending ≡ 0
 
 -- The n first bits of the stream s are put: whole words are in `out`, the bits of the word begun are held in the cursor.
 pub record Holds (s : ℕ → ℕ) (n : ℕ) (c : Cursor) (old out : List ℕ) : Type 0 where
   pub at : 64 * c.word + c.held ≡ n
-  pub within : c.held < 64
   pub bits : c.pending ≡ of_bits c.held (λ i. s (64 * c.word + i))
   pub words : out ≡ overwritten c.word (word_at s) old
 
@@ -25,7 +25,6 @@ pub record Begins (m : ℕ) (ws : List ℕ) (r : Cursor) : Type 0 where
 -- Putting a field moves the cursor on: whatever the stream, if the field is its next `size` bits.
 pub record Puts (c : Cursor) (size field : ℕ) (before : List ℕ) (r : Cursor) (after : List ℕ) : Type 0 where
   pub at : 64 * r.word + r.held ≡ 64 * c.word + c.held + size
-  pub within : r.held < 64
   pub next : (s : ℕ → ℕ) (n : ℕ) (old : List ℕ) → Holds s n c old before → field ≡ of_bits size (λ i. s (n + i)) → Holds s (n + size) r old after
 
 -- both fields put, by way of a cursor between
@@ -44,15 +43,9 @@ pub record Gathers (m : ℕ) (ws : List ℕ) (i : ℕ) (r : Pair) : Type 0 where
   pub low : r.low ≡ gather_of 64 m (get_or ws i 0)
   pub high : r.high ≡ gather_of 64 m (get_or ws (i + 1) 0)
 
--- The first n words are copied, and are words.
-pub record Copies (n : ℕ) (from before after : List ℕ) : Type 0 where
-  pub words : after ≡ overwritten n (λ i. get_or from i 0) before
-  pub fit : (i : ℕ) → i < n → get_or from i 0 < 2 ^ 64
-
 -- The n first bits of packed words are taken: those of the last word read that are not are held in the cursor.
 pub record Awaits (ps : List ℕ) (n : ℕ) (c : Cursor) : Type 0 where
   pub at : n + c.held ≡ 64 * c.word
-  pub within : c.held < 64
   pub bits : c.pending ≡ of_bits c.held (λ i. packed_bit ps (n + i))
 
 -- the `size` low bits of x are those from bit n
@@ -60,6 +53,6 @@ pub record Reads (ps : List ℕ) (n size x : ℕ) : Type 0 where
   pub bits : (i : ℕ) → i < size → bit x i ≡ packed_bit ps (n + i)
 
 -- Taking a field moves the cursor on.
-pub record Takes (ps : List ℕ) (c : Cursor) (size : ℕ) (r : Taken) : Type 0 where
-  pub next : (n : ℕ) → Awaits ps n c → Awaits ps (n + size) r.next
-  pub field : (n : ℕ) → Awaits ps n c → Reads ps n size r.field
+pub record Takes (ps : List ℕ) (c : Cursor) (size x : ℕ) (r : Cursor) : Type 0 where
+  pub next : (n : ℕ) → Awaits ps n c → Awaits ps (n + size) r
+  pub field : (n : ℕ) → Awaits ps n c → Reads ps n size x

@@ -1,15 +1,19 @@
 -- What a call on one network alone answers, by the code's steps, and that it is the controls that realise the permutation, or 6 exactly if there are none.
 -- Assumes nothing.
-use mathlib.Core.Path.{◌≡◌, refl, sym, ◌∙◌, ap, ap₂, subst}
+use mathlib.Core.Path.{◌≡◌, refl, sym, ◌∙◌, ap, subst}
 use mathlib.Core.Bool.{Bool, true, false, not, cond, true≢false}
 use mathlib.Core.List.{List, [], ◌∷◌}
 use Prim.Native.Nat.{ℕ, zero, suc, ◌^◌}
 use native.Mathlib.Omega.{arith}
 use lib.Dec.{eqb}
 use lib.ListN.{length, take}
+use Rattle.std.proofs.Common.{Some, None}
 use borrow.Author.Tests.{ne_eqb, not-false}
-use Rattle.bits.specs.Refusal.{log_of, accepted, lowest}
+use Rattle.bits.specs.Refusal.{log_of, accepted, lowest, number_of}
+use Rattle.bits.specs.declared.Refusal.{Refusal}
+use Rattle.bits.proofs.Numbers.{number-refused}
 use Rattle.bits.proofs.Refusals.{none-applies}
+use Rattle.network.specs.declared.Controls.{Controls}
 use Rattle.network.specs.Stage.{butterfly_of, inverse_of}
 use Rattle.network.specs.Calls.{six, controls}
 use Rattle.routing.specs.Lists.{ListPermutes}
@@ -58,7 +62,7 @@ module _ (w : ℕ) (es : List ℕ) (fits : ℕ → List ℕ → Bool) (alone : �
 
   module _ {f : ℕ → List ℕ → ℕ → ℕ} (d : DecidesAlone f fits alone) where
     permutes : route_refusal w es ≡ 0 → ListPermutes (2 ^ log_of w) es
-    permutes z = (route-permutes w es refl z refl).1
+    permutes z = (route-permutes w es z refl).1
 
     found : one_refusal fits w es ≡ 0 → ControlsAlone f L (take L (one_answer fits alone w es).controls.stages) es
     found z =
@@ -76,25 +80,40 @@ module _ (w : ℕ) (es : List ℕ) (fits : ℕ → List ℕ → Bool) (alone : �
         let n = sym (one_number w es fits alone) in
         subst (AnswersAlone f w es) (sym e) (record { found = λ z. found (n ∙ z); none = λ z. none (n ∙ z) })
 
-  module _ {n : ℕ} (e : n ≡ route_refusal w es) where
-    pub one-turned-back : (n ≡ 0 → ⊥) → ◌≡◌ {A = RoutedOne} (record { refusal = n; controls = controls [] }) (one_answer fits alone w es)
-    unfolding one_answer
-    one-turned-back z = rw (one-refusal w es fits, ← e, ne_eqb n 0 z, ne_eqb n 0 z)
+  -- the refusal, from that of both networks and whether the one realises the permutation
+  pub refused-before : (r : Refusal) → number_of r ≡ route_refusal w es → number_of r ≡ one_refusal fits w es
+  refused-before r e = sym (one-refusal w es fits ∙ rw (← e, number-refused r))
 
-    pub one-answered : n ≡ 0 → {l : ℕ} {b : Bool} {cs : List ℕ} → l ≡ log_of w → b ≡ fits l es → cs ≡ cond (fits l es) (six (alone l es)) (six [])
-        → ◌≡◌ {A = RoutedOne} (record { refusal = cond b 0 6; controls = record { stages = cs } }) (one_answer fits alone w es)
-    unfolding one_answer
-    one-answered z {l} {b} {cs} q f c =
-        ap₂ (λ (n : ℕ) (s : List ℕ). record { refusal = n; controls = record { stages = s } })
-        (ap (λ (t : Bool). cond t 0 6) (f ∙ ap (λ (k : ℕ). fits k es) q))
-        (c ∙ ap (λ (k : ℕ). cond (fits k es) (six (alone k es)) (six [])) q)
-        ∙ by (fits L es) (one_refusal fits w es) (six (alone L es)) (one-refusal w es fits ∙ ap (λ (r : ℕ). by_both r (fits L es)) (sym e ∙ z))
+  fit-refusal : {h : Bool} → route_refusal w es ≡ 0 → fits L es ≡ h → one_refusal fits w es ≡ cond (not h) 6 0
+  fit-refusal z f = one-refusal w es fits ∙ rw (z, f)
+
+  -- by the stages found
+  module _ (z : route_refusal w es ≡ 0) {l : ℕ} (q : l ≡ log_of w) where
+    pub none-realise : None ≡ cond (fits l es) (Some (six (alone l es))) None → 6 ≡ one_refusal fits w es
+    none-realise e = go (fits L es) refl (rw q at e)
       where
-        by : (h : Bool) (r : ℕ) (x : List ℕ) → r ≡ cond (not h) 6 0
-            → ◌≡◌ {A = RoutedOne} (record { refusal = cond h 0 6; controls = record { stages = cond h x (six []) } })
-            (cond (eqb r 0) (record { refusal = 0; controls = record { stages = x } }) (record { refusal = r; controls = controls [] }))
-        by true r x p = rw p
-        by false r x p = rw p
+        go : (h : Bool) → fits L es ≡ h → None ≡ cond h (Some (six (alone L es))) None → 6 ≡ one_refusal fits w es
+        go true f e = cc
+        go false f e = sym (fit-refusal z f)
+
+    pub one-realises : {cs : List ℕ} → Some cs ≡ cond (fits l es) (Some (six (alone l es))) None
+        → (one_refusal fits w es ≡ 0) × ◌≡◌ {A = Controls} (record { stages = cs }) (controls (alone L es))
+    one-realises {cs} e = go (fits L es) refl (rw q at e)
+      where
+        go : (h : Bool) → fits L es ≡ h → Some cs ≡ cond h (Some (six (alone L es))) None
+            → (one_refusal fits w es ≡ 0) × ◌≡◌ {A = Controls} (record { stages = cs }) (controls (alone L es))
+        go true f e = (fit-refusal z f, cc)
+        go false f e = cc
+
+  -- the answer
+  pub one-answered : {k : Controls} → (one_refusal fits w es ≡ 0) × (k ≡ controls (alone L es))
+      → ◌≡◌ {A = RoutedOne} (record { refusal = 0; controls = k }) (one_answer fits alone w es)
+  one-answered p = ap (λ (k : Controls). record { refusal = 0; controls = k }) p.1 ∙ sym (one-carried p.0)
+
+  pub one-turned-back : (r : Refusal) → number_of r ≡ one_refusal fits w es
+      → ◌≡◌ {A = RoutedOne} (record { refusal = number_of r; controls = controls [] }) (one_answer fits alone w es)
+  unfolding one_answer
+  one-turned-back r e = rw (← e, number-refused r)
 
 -- of the inverse (rising) and of the butterfly
 pub either-alone : (rising : Bool) → DecidesAlone (cond rising inverse_of butterfly_of) (fits_alone rising) (alone rising)

@@ -1,7 +1,7 @@
 -- The test that a list names every place once. Assumes nothing.
 use mathlib.Core.Path.{◌≡◌, refl, sym, ◌∙◌, ap, ap₂}
 use mathlib.Core.Bool.{Bool, true, false, not, cond, ◌&&◌, true≢false}
-use mathlib.Core.List.{List, [], ◌∷◌}
+use mathlib.Core.List.{List, [], ◌∷◌, ◌++◌}
 use Prim.Native.Nat.{ℕ, zero, suc, ◌+◌, ◌*◌, ◌/◌, ◌%◌, ◌^◌, ◌<◌, ◌≤◌, max}
 use native.Mathlib.Omega.{arith}
 use native.Mathlib.Decide.{ℕ_discrete}
@@ -9,8 +9,9 @@ use native.Mathlib.Nat.{not-suc-le-zero}
 use native.Mathlib.Numerals.{add-one}
 use lib.Bits.{bit_or}
 use lib.Dec.{eqb, ltb}
-use lib.ListN.{length, get_or, drop}
+use lib.ListN.{length, get_or, take, drop}
 use lib.Seq.{drop-cons, drop-length}
+use Rattle.std.proofs.lemmas.List.{length-append, length-take, get_or-take, get_or_at, take_at, take-take}
 use borrow.Author.Tests.{ltb-true, lt-ltb, le-ltb, eq-eqb, ne_eqb}
 use Rattle.bits.specs.Bit.{bit}
 use Rattle.bits.proofs.Refusals.{both}
@@ -112,6 +113,22 @@ seen_nothing es = rw (drop-length es) seen_none
 pub nothing_left : (w : ℕ) (es : List ℕ) → names_once w (drop (length es) es) ≡ true
 unfolding names_once
 nothing_left w es = rw (drop-length es)
+
+-- what is left of the entries, once x has been taken from its end
+pub one-left :
+    (es rest : List ℕ) {more : List ℕ} {x : ℕ}
+    → more ≡ take (length more) es
+    → more ≡ rest ++ x ∷ []
+    → (length more ≡ length rest + 1) × (length rest < length es) × (rest ≡ take (length rest) es) × (x ≡ get_or es (length rest) 0)
+one-left es rest {more} {x} f g =
+    let n : length more ≡ length rest + 1 = omega (arith, simp length-append at (ap length g)) in
+    let l : length rest < length es = omega (arith, ap length f, length-take (length more) es) in
+    let h : length rest < length more = omega arith in (
+      n,
+      l,
+      sym (take_at rest (x ∷ []) (length rest) refl) ∙ ap (take (length rest)) (sym g ∙ f) ∙ take-take (length rest) (length more) es (omega arith),
+      sym (get_or_at rest x [] 0 (length rest) refl) ∙ ap (λ (ys : List ℕ). get_or ys (length rest) 0) (sym g ∙ f) ∙ get_or-take (length more) es (length rest) 0 h,
+    )
 
 -- a list whose end does not pass does not pass
 names-suffix : (w : ℕ) (es : List ℕ) (i : ℕ) → names_once w (drop i es) ≡ false → names_once w es ≡ false

@@ -1,7 +1,7 @@
 -- The refusals of the calls on permutations: by the tests that the code makes, lowest first (demand 1), and what a call that is carried out is on.
 -- Assumes nothing.
 use mathlib.Core.Path.{◌≡◌, refl, sym, ◌∙◌, ap}
-use mathlib.Core.Bool.{Bool, true, not, cond}
+use mathlib.Core.Bool.{Bool, true, false, not, cond}
 use mathlib.Core.List.{List, [], ◌∷◌}
 use Prim.Native.Nat.{ℕ, ◌^◌, ◌≤◌}
 use native.Mathlib.Omega.{arith}
@@ -19,7 +19,15 @@ use Rattle.permute.specs.Calls.{entries_conditions, route_conditions, route_refu
 use Rattle.permute.proofs.Names.{names-permutes, permutes-names}
 
 module _ (w : ℕ) (es : List ℕ) where
-  -- the refusal, from the outcomes of the tests: the list's length, every bit named once; before these, an accepted width
+  -- the refusal, from the outcomes of the tests: an accepted width, the list's length, every bit named once
+  pub not-accepted : accepted w ≡ false → route_refusal w es ≡ 1
+  unfolding route_refusal
+  not-accepted a = rw a
+
+  pub accepted-entries : accepted w ≡ true → route_refusal w es ≡ lowest (entries_conditions w es)
+  unfolding route_refusal
+  accepted-entries a = rw a
+
   pub entries-refusal-by : {f g : Bool} → eqb (length es) w ≡ f → names_once w es ≡ g
       → lowest (entries_conditions w es) ≡ lowest ((4, not f) ∷ (5, not g) ∷ [])
   entries-refusal-by q r = λ i. lowest ((4, not (q i)) ∷ (5, not (r i)) ∷ [])
@@ -39,9 +47,9 @@ module _ (w : ℕ) (es : List ℕ) where
   unfolding route_refusal
   route-within = entries-within (accepted w)
 
-  pub route-permutes : {n l : ℕ} → n ≡ route_refusal w es → n ≡ 0 → l ≡ log_of w → (l ≤ 6) × ListPermutes (2 ^ l) es
-  route-permutes {n} {l} e z q =
-      let i = route-within (sym e ∙ z) in
+  pub route-permutes : {l : ℕ} → route_refusal w es ≡ 0 → l ≡ log_of w → (l ≤ 6) × ListPermutes (2 ^ l) es
+  route-permutes {l} z q =
+      let i = route-within z in
       let p = log-width w i.0 in
       let v : w ≡ 2 ^ l = p.0 ∙ ap (λ (k : ℕ). 2 ^ k) (sym q) in
       (omega (arith, log-le w), rw v at (names-permutes w es i.1 i.2))

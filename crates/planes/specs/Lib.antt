@@ -1,3 +1,4 @@
 pub mod Planes
 pub mod Steps
 pub mod Rounds
+pub mod Kinds

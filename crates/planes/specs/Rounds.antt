@@ -1,18 +1,18 @@
 -- The list of steps as the code runs it: a table of bytes, and 32 words of which the results so far fill the first. Internal: no answer of a call cites it.
 -- `filled-steps` says that it is `after_steps`. Assumes nothing.
-use Rattle.std.specs.Prelude.{◌≡◌, ℕ, zero, suc, ◌+◌, ◌*◌, ◌/◌, ◌%◌, ◌^◌, ◌<◌, Bool, cond, ◌&&◌, ◌||◌, List, [], ◌∷◌, eqb, ltb, get_or, set}
+use Rattle.std.specs.Prelude.{ℕ, zero, suc, ◌+◌, ◌*◌, ◌/◌, ◌%◌, ◌^◌, Bool, false, cond, ◌&&◌, ◌||◌, List, [], ◌∷◌, eqb, ltb, get_or, set}
 use Rattle.bits.specs.Bit.{bit, byte_at, of_bits}
 use Rattle.planes.specs.declared.Round.{Round}
-use Rattle.planes.specs.Steps.{Step, kept_place, keep_halves, merge_halves, result_of, step_on, mirrored}
-
--- what a step makes of the words so far, by merging (true) or by packing
-abbrev pub result_by : Bool → Step → List ℕ → ℕ
-result_by b s ws = cond b (result_of merge_halves (mirrored s) ws) (result_of keep_halves s ws)
+use Rattle.planes.specs.Steps.{Step, kept_place, merge_halves, result_of, step_on}
 
 -- each result into its place, from n up
-unfoldable pub fill_steps : Bool → ℕ → List Step → List ℕ → List ℕ
-fill_steps b n [] ws = ws
-fill_steps b n (s ∷ ss) ws = fill_steps b (suc n) ss (set ws n (result_by b s ws))
+unfoldable pub fill_steps : (ℕ → ℕ → ℕ → ℕ → ℕ) → ℕ → List Step → List ℕ → List ℕ
+fill_steps kind n [] ws = ws
+fill_steps kind n (s ∷ ss) ws = fill_steps kind (suc n) ss (set ws n (result_of kind s ws))
+
+-- a merging step by the packing step that it mirrors
+abbrev pub mirrored_merge : ℕ → ℕ → ℕ → ℕ → ℕ
+mirrored_merge width half x y = merge_halves (16 / width) half x y
 
 -- the step of byte t
 abbrev pub step_at : Round → ℕ → Step
@@ -48,9 +48,13 @@ is_width w = eqb w 2 || (eqb w 4 || eqb w 8)
 abbrev pub is_step : Step → Bool
 is_step s = ltb s.first 32 && (ltb s.second 32 && (is_width s.width && ltb s.half 2))
 
--- half a field's width, where fields fill a word
-abbrev pub IsHalf : ℕ → Type 0
-IsHalf h = (e : ℕ) × ((e < 6) × (h ≡ 2 ^ e))
+-- half a field's width, where fields fill a word: 2^e for an e below n, which is 6
+abbrev pub is_power : ℕ → ℕ → Bool
+is_power zero h = false
+is_power (suc n) h = eqb h (2 ^ n) || is_power n h
+
+abbrev pub is_half : ℕ → Bool
+is_half h = is_power 6 h
 
 -- the kept halves of one word, end to end
 unfoldable pub kept_halves : ℕ → ℕ → ℕ → ℕ

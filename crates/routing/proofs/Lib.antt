@@ -15,7 +15,7 @@ pub mod ListControls
 pub mod StageWords
 pub mod Level
 pub mod WalkSteps
-pub mod Arrays
+pub mod UnsetSwitches
 pub mod InverseEntries
 pub mod Alone
 pub mod AloneWords

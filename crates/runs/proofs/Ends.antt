@@ -1,23 +1,20 @@
--- A run by the steps of the code: it goes on, and ends. Assumes nothing.
-use mathlib.Core.Path.{◌≡◌, refl, sym, ◌∙◌, ap}
-use mathlib.Core.Bool.{Bool, true, false, cond}
-use mathlib.Core.List.{List, ◌++◌}
+-- What a run leaves of its list, and a run from the check of its list. Assumes nothing.
+use mathlib.Core.Path.{◌≡◌, ◌∙◌, ap}
+use mathlib.Core.List.{List}
 use Prim.Native.Nat.{ℕ, ◌*◌, ◌%◌, ◌≤◌}
 use native.Mathlib.Omega.{arith}
-use lib.Dec.{ltb}
-use lib.ListN.{length, drop}
-use Rattle.unit.specs.declared.Registers.{Registers}
+use lib.ListN.{length}
+use borrow.Author.Tests.{eq-eqb}
+use Rattle.std.specs.Prelude.{Bool, Result, Ok, Err, MatchResult}
+use Rattle.bits.specs.declared.Refusal.{Refusal}
+use Rattle.bits.specs.Refusal.{number_of}
+use Rattle.bits.proofs.Numbers.{number-refused}
 use Rattle.unit.specs.declared.Bank.{Bank}
-use Rattle.unit.specs.Bank.{fresh, with_status, with_waiting, bank_of, leaving}
-use Rattle.unit.specs.Operation.{Operation}
-use Rattle.unit.specs.Lent.{bare, carrying}
-use Rattle.runs.specs.declared.Turn.{Turn}
-use Rattle.runs.specs.declared.Marks.{Marks}
-use Rattle.runs.specs.StatusByte.{with_bit}
-use Rattle.runs.specs.Run.{operations_of, ran_of, reaching, turn_of, end_of, status_bit, noted, remembering, drop_lent, ended_of, marks_of, with_marks, outcome_of}
+use Rattle.runs.specs.declared.Outcome.{Outcome}
+use Rattle.runs.specs.declared.Operations.{Operations}
+use Rattle.runs.specs.Run.{operations_of, ran_of, run_refusal, carried_out, refused_of, perform_of}
 use Rattle.runs.proofs.OperationLists.{length-operations}
 use Rattle.runs.proofs.Runs.{ran_le}
-use Rattle.runs.proofs.BytesKept.{turn_by}
 
 -- no more are run than there are bytes for
 pub within-list : (bytes : List ℕ) (budget : ℕ) → length bytes % 4 ≡ 0 → {n : ℕ} → n ≡ ran_of budget (operations_of bytes) → 4 * n ≤ length bytes
@@ -26,51 +23,11 @@ within-list bytes budget h e =
     let b = length-operations bytes h in
     omega (arith, a, b, e)
 
-module _ (l bytes : List ℕ) where
-  abbrev os : List Operation
-  os = operations_of bytes
-
-  -- the bank at the end, by the outcome of the test
-  abbrev ended_by : Registers → ℕ → Bool → ℕ → Bank
-  ended_by k n b e = noted (cond b (remembering (bank_of k l) (drop (4 * n) bytes)) (drop_lent (bank_of k l))) e
-
-  module _ (k : Registers) (n : ℕ) {e : ℕ} (h : e ≡ end_of n os) {s : ℕ} (f : s ≡ with_bit k.status (status_bit e)) where
-    by_end : (b : Bool) → ltb n (length os) ≡ b → ended_by k n b e ≡ ended_of (bank_of k l) bytes n
-    by_end b t = ap (ended_by k n b) h ∙ ap (λ (c : Bool). ended_by k n c (end_of n os)) (sym t)
-
-    pub ended-done : (e ≡ 2 → ⊥) → bank_of (with_waiting (with_status k s) 0 k.left) l ≡ ended_of (bank_of k l) bytes n
-    ended-done p = ap (λ (t : ℕ). bank_of (with_waiting (with_status k t) 0 k.left) l) f ∙ by_end false (by-test (ltb n (length os)) refl)
-      where
-        by-test : (b : Bool) → ltb n (length os) ≡ b → ltb n (length os) ≡ false
-        by-test true t = absurd (p (h ∙ ap (λ (c : Bool). cond c 2 1) t))
-        by-test false t = t
-
-    pub ended-spent : e ≡ 2 → {rest x : List ℕ} → rest ≡ drop (4 * n) bytes → x ≡ rest ++ drop (length rest) l
-        → bank_of (with_waiting (with_status k s) 1 (length rest)) x ≡ ended_of (bank_of k l) bytes n
-    ended-spent p {rest} g q =
-        (λ i. bank_of (with_waiting (with_status k (f i)) 1 (length rest)) (q i))
-        ∙ ap (λ (xs : List ℕ). noted (remembering (bank_of k l) xs) e) g
-        ∙ by_end true (by-test (ltb n (length os)) refl (sym h ∙ p))
-      where
-        by-test : (b : Bool) → ltb n (length os) ≡ b → ◌≡◌ {A = ℕ} (cond b 2 1) 2 → ltb n (length os) ≡ true
-        by-test true t x = t
-        by-test false t x = absurd (omega arith)
-
-  -- the end sees marks alone
-  ended-marks : (k : Registers) (m : Marks) (n : ℕ) → let a = ended_of (bank_of (with_marks fresh m) l) bytes n in
-      bank_of (with_marks k (marks_of a.registers)) a.list ≡ ended_of (bank_of (with_marks k m) l) bytes n
-  ended-marks k m n = by-test (ltb n (length os)) (end_of n os)
-    where
-      by-test : (b : Bool) (e : ℕ) → let a = ended_by (with_marks fresh m) n b e in bank_of (with_marks k (marks_of a.registers)) a.list ≡ ended_by (with_marks k m) n b e
-      by-test true e = refl
-      by-test false e = refl
-
-  -- a run by the steps of the code, of a bank with the words of k and the marks m
-  pub carried-out : (k : Registers) (m : Marks) (budget : ℕ) {t : Turn} {j : Registers} → reaching t j ≡ turn_of (bare k) os budget → {e : ℕ} → e ≡ end_of t.ran os
-      → {a : Marks} {x : List ℕ} → bank_of (with_marks fresh a) x ≡ ended_of (bank_of (with_marks fresh m) l) bytes t.ran
-      → leaving (record { refusal = 0; «end» = e; ran = t.ran; cycles = t.cycles }) (bank_of (with_marks j a) x) ≡ outcome_of (bank_of (with_marks k m) l) bytes (turn_of (with_marks k m) os budget)
-  carried-out k m budget {t} {j} h p q =
-      let i = carrying (with_marks k m) j in
-      (λ y. leaving (record { refusal = 0; «end» = p y; ran = t.ran; cycles = t.cycles }) (bank_of (with_marks j (marks_of (q y).registers)) (q y).list))
-      ∙ ap (leaving (record { refusal = 0; «end» = end_of t.ran os; ran = t.ran; cycles = t.cycles })) (ended-marks i m t.ran)
-      ∙ ap (outcome_of (bank_of (with_marks k m) l) bytes) (turn_by (with_marks k m) os budget h)
+-- what the check lets through is carried out, and what it refuses is refused
+pub performed : (checked : Result Operations Refusal) (other : Bool) (bytes : List ℕ) (k : Bank) (budget : ℕ) {left : Outcome × Bank}
+    → MatchResult checked (λ ops. (ops.bytes.now ≡ bytes) × (run_refusal other bytes ≡ 0)) (λ refusal. number_of refusal ≡ run_refusal other bytes)
+    → MatchResult checked (λ ops. left ≡ carried_out k ops.bytes.now budget) (λ refusal. left ≡ refused_of k (number_of refusal))
+    → left ≡ perform_of other k bytes budget
+unfolding perform_of
+performed (Ok ops) other bytes k budget r e = rw (eq-eqb _ 0 r.1) (e ∙ ap (λ (b : List ℕ). carried_out k b budget) r.0)
+performed (Err refusal) other bytes k budget r e = rw (← r, number-refused refusal) e

@@ -1,35 +1,39 @@
 -- A run's list: its bytes by fours, and its lowest refusal as one goes through it. Assumes nothing.
 use mathlib.Core.Path.{◌≡◌, refl, sym, ◌∙◌, ap}
 use mathlib.Core.Bool.{Bool, true, false, not, cond, ◌&&◌, ◌||◌}
-use mathlib.Core.List.{List, [], ◌∷◌}
-use Prim.Native.Nat.{ℕ, zero, suc, ◌+◌, ◌*◌, ◌%◌, ◌<◌, ◌≤◌}
+use mathlib.Core.List.{List, [], ◌∷◌, ◌++◌}
+use Prim.Native.Nat.{ℕ, zero, suc, ◌*◌, ◌%◌, ◌<◌, ◌≤◌}
 use native.Mathlib.Omega.{arith}
 use lib.Dec.{eqb, leb}
 use lib.ListN.{length, drop, drop_of_length-le}
-use lib.Seq.{drop-cons, drop-nil}
+use lib.Seq.{drop-nil}
 use borrow.Author.Tests.{eqb-true, leb-true, not-false}
 use Rattle.bits.specs.Refusal.{lowest}
 use Rattle.bits.proofs.Refusals.{NoneApplies, none-applies, neither}
 use Rattle.unit.specs.Operation.{is_kind, used_of, are_registers, Operation, operation_at}
 use Rattle.runs.specs.Run.{operations_of, any_kind, any_register, operations_refusal, run_conditions, run_refusal}
 
-module _ (bytes : List ℕ) (i : ℕ) where
-  pub operations-next : i + 3 < length bytes → operations_of (drop i bytes) ≡ operation_at bytes i ∷ operations_of (drop (i + 4) bytes)
-  unfolding operations_of
-  operations-next h =
-      let e1 : i + 1 ≡ suc i = omega arith in
-      let e2 : i + 2 ≡ suc (suc i) = omega arith in
-      let e3 : i + 3 ≡ suc (suc (suc i)) = omega arith in
-      let e4 : i + 4 ≡ suc (suc (suc (suc i))) = omega arith in
-      let d0 = drop-cons bytes i 0 (omega arith) in
-      let d1 = drop-cons bytes (suc i) 0 (omega arith) in
-      let d2 = drop-cons bytes (suc (suc i)) 0 (omega arith) in
-      let d3 = drop-cons bytes (suc (suc (suc i))) 0 (omega arith) in
-      rw (e1, e2, e3, e4, d0, d1, d2, d3)
+-- four bytes at the start are an operation
+four : (xs ys : List ℕ) → length xs ≡ 4 → operations_of (xs ++ ys) ≡ operation_at xs 0 ∷ operations_of ys
+unfolding operations_of
+four [] ys h = absurd (omega arith)
+four (a ∷ []) ys h = absurd (omega arith)
+four (a ∷ b ∷ []) ys h = absurd (omega arith)
+four (a ∷ b ∷ c ∷ []) ys h = absurd (omega arith)
+four (a ∷ b ∷ c ∷ d ∷ []) ys h = refl
+four (a ∷ b ∷ c ∷ d ∷ x ∷ xs) ys h = absurd (omega arith)
 
-  pub operations-end : length bytes ≤ i → operations_of (drop i bytes) ≡ []
-  unfolding operations_of
-  operations-end h = rw (drop_of_length-le bytes h)
+pub operations-four : (xs ys : List ℕ) {bytes : List ℕ} → bytes ≡ xs ++ ys → length xs ≡ 4 → operations_of bytes ≡ operation_at xs 0 ∷ operations_of ys
+operations-four xs ys e h = ap operations_of e ∙ four xs ys h
+
+-- fewer than four are none
+pub operations-short : (bytes : List ℕ) {n : ℕ} → length bytes < n → n ≡ 4 → operations_of bytes ≡ []
+unfolding operations_of
+operations-short [] h e = refl
+operations-short (a ∷ []) h e = refl
+operations-short (a ∷ b ∷ []) h e = refl
+operations-short (a ∷ b ∷ c ∷ []) h e = refl
+operations-short (a ∷ b ∷ c ∷ d ∷ bytes) h e = absurd (omega arith)
 
 -- one test more, of those that all hold so far
 and-more : (a b r : Bool) → (not (a && b) || r) ≡ (not a || (not b || r))
@@ -44,9 +48,6 @@ or-false false = refl
 pub record Sofar (os : List Operation) (registers : Bool) (rest : List Operation) : Type 0 where
   pub any-kind : any_kind rest ≡ any_kind os
   pub any-register : (not registers || any_register rest) ≡ any_register os
-
-pub sofar-none : {os : List Operation} → Sofar os true os
-sofar-none = record { any-kind = refl; any-register = refl }
 
 module _ {os rest : List Operation} {o : Operation} {registers : Bool} (h : Sofar os registers (o ∷ rest)) {k : Bool} (e : k ≡ is_kind o.0 o.1) where
   pub sofar-next : {r : Bool} → k ≡ true → r ≡ are_registers (used_of o.0 o.1 o.2 o.3) → Sofar os (registers && r) rest

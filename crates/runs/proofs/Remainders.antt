@@ -2,10 +2,10 @@
 use mathlib.Core.Path.{◌≡◌, refl, sym, ◌∙◌, ap, ap₂}
 use mathlib.Core.Bool.{Bool, true, false, ◌&&◌, true≢false, and_assoc, and-true}
 use mathlib.Core.List.{List, [], ◌∷◌, ◌++◌}
-use Prim.Native.Nat.{ℕ, suc, ◌+◌, ◌<◌, ◌≤◌}
+use Prim.Native.Nat.{ℕ, suc, ◌+◌, ◌<◌}
 use native.Mathlib.Omega.{arith}
 use lib.Dec.{eqb}
-use lib.ListN.{length, get_or, set, take, drop, length-take, drop_of_length-le}
+use lib.ListN.{length, get_or, set, take, drop, length-take}
 use lib.Seq.{drop-cons, set_at, length-take-le, append_snoc, take-suc}
 use borrow.Author.Tests.{eq-eqb, eqb-true}
 use Rattle.bits.proofs.Refusals.{both}
@@ -34,21 +34,16 @@ unfolding same
 same_refl [] = refl
 same_refl (x ∷ xs) = rw (eq-eqb x x refl) (same_refl xs)
 
--- by the steps of the code
-module _ (xs ys : List ℕ) where
-  pub same_next : (b : Bool) (i : ℕ) {t : Bool} → i < length xs → i < length ys → (b && same (drop i xs) (drop i ys)) ≡ t
-      → (b && eqb (get_or xs i 0) (get_or ys i 0) && same (drop (i + 1) xs) (drop (i + 1) ys)) ≡ t
-  unfolding same
-  same_next b i h l e =
-      let n : i + 1 ≡ suc i = omega arith in
-      let s : same (drop i xs) (drop i ys) ≡ (eqb (get_or xs i 0) (get_or ys i 0) && same (drop (i + 1) xs) (drop (i + 1) ys)) = rw (drop-cons xs i 0 h, drop-cons ys i 0 l, n) in
-      and_assoc b (eqb (get_or xs i 0) (get_or ys i 0)) (same (drop (i + 1) xs) (drop (i + 1) ys)) ∙ ap (λ (t : Bool). b && t) (sym s) ∙ e
+-- by the steps of the code: one byte more, and no more bytes
+pub same_next : (b : Bool) (x : ℕ) (xs : List ℕ) (y : ℕ) (ys : List ℕ) {t : Bool} → (b && same (take (length (y ∷ ys)) (x ∷ xs)) (y ∷ ys)) ≡ t
+    → (b && eqb x y && same (take (length ys) xs) ys) ≡ t
+unfolding same
+same_next b x xs y ys e = and_assoc b (eqb x y) (same (take (length ys) xs) ys) ∙ e
 
-  pub same_end : (b : Bool) (i : ℕ) {t : Bool} → length xs ≤ i → length ys ≤ i → (b && same (drop i xs) (drop i ys)) ≡ t → b ≡ t
-  unfolding same
-  same_end b i h l e =
-      let s : same (drop i xs) (drop i ys) ≡ true = rw (drop_of_length-le xs h, drop_of_length-le ys l) in
-      sym (and-true b) ∙ ap (λ (t : Bool). b && t) (sym s) ∙ e
+pub same_end : (b : Bool) (xs ys : List ℕ) {t : Bool} → length ys ≡ 0 → (b && same (take (length ys) xs) ys) ≡ t → b ≡ t
+unfolding same
+same_end b xs [] z e = sym (and-true b) ∙ e
+same_end b xs (y ∷ ys) z e = absurd (omega (arith, z))
 
 -- a longer list than the bank's is not the start of that
 pub not_same : (n : ℕ) (xs ys : List ℕ) → length xs < length ys → same (take n xs) ys ≡ false

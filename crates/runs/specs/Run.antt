@@ -7,8 +7,9 @@ use Rattle.unit.specs.declared.Bank.{Bank}
 use Rattle.unit.specs.Bank.{with_status, with_waiting, waits, with_registers, leaving}
 use Rattle.unit.specs.Operation.{cycles_of, is_kind, used_of, are_registers, Operation, step_by}
 use Rattle.runs.specs.declared.Turn.{Turn}
-use Rattle.runs.specs.declared.Marks.{Marks}
 use Rattle.runs.specs.declared.Outcome.{Outcome}
+use Rattle.runs.specs.declared.End.{End}
+use Rattle.runs.specs.declared.End.TheVariants.{Refused, Done, Spent}
 use Rattle.runs.specs.StatusByte.{with_bit}
 
 -- the operations of a list: four bytes each
@@ -67,6 +68,12 @@ turn_of k os budget =
     let n = ran_of budget os in
     reaching (record { ran = n; cycles = sum_of (take n os) }) (steps_of k (take n os))
 
+-- the numbers of how a run ended
+abbrev pub end_number : End → ℕ
+end_number Refused = 0
+end_number Done = 1
+end_number Spent = 2
+
 -- "Spent means: an operation is left and does not fit": how a run ended, 1 done, 2 spent
 abbrev pub end_of : ℕ → List Operation → ℕ
 end_of ran os = cond (ltb ran (length os)) 2 1
@@ -97,13 +104,6 @@ drop_lent k = with_registers k (drop_of k.registers)
 abbrev pub ended_of : Bank → List ℕ → ℕ → Bank
 ended_of k bytes n =
     noted (cond (ltb n (length (operations_of bytes))) (remembering k (drop (4 * n) bytes)) (drop_lent k)) (end_of n (operations_of bytes))
-
--- what registers hold beside the words, and registers with the marks of others: inner functions take them apart
-abbrev pub marks_of : Registers → Marks
-marks_of k = record { status = k.status; enable = k.enable; waiting = k.waiting; left = k.left }
-
-abbrev pub with_marks : Registers → Marks → Registers
-with_marks k m = record { general = k.general; b = k.b; ib = k.ib; status = m.status; enable = m.enable; waiting = m.waiting; left = m.left }
 
 -- the answer and the bank of a list that has been gone on with so far, ended
 abbrev pub outcome_of : Bank → List ℕ → Turn × Registers → Outcome × Bank

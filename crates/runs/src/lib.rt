@@ -2,23 +2,29 @@
 // and are continued (Req 10).
 #![tactic(auto)]
 
-ghost use Rattle.std.specs.Prelude.{◌≡◌, ◌++◌, ◌*◌, ◌/◌, ◌%◌, ◌^◌, ◌≤◌, length, take, drop};
-ghost use Rattle.unit.specs.Bank.{fresh, with_enable, bank_of, leaving};
-ghost use Rattle.unit.specs.Lent.{Sized, registers_of};
+ghost use Rattle.std.specs.Prelude.{◌≡◌, ◌*◌, ◌%◌, ◌^◌, ◌≤◌, length, take, MatchResult, ◌++◌, drop};
+ghost use Rattle.bits.specs.Refusal.{number_of, number_in};
+ghost use Rattle.unit.specs.Bank.{with_enable, leaving};
 ghost use Rattle.runs.specs.StatusByte.{with_bit, status_of, acknowledge_of, interrupt_of};
-ghost use Rattle.runs.specs.Run.{operations_of, operations_refusal, run_refusal, reaching, turn_of, end_of, status_bit, marked_by, with_marks, marks_of, ended_of, performed_by, run_of, same, is_remainder, continue_of, drop_of};
+ghost use Rattle.runs.specs.Run.{end_number, operations_of, operations_refusal, run_refusal, reaching, turn_of, end_of, status_bit, marked_by, ended_of, carried_out, refused_of, run_of, same, is_remainder, continue_of, drop_of};
 
-// How a run ended, if it was carried out.
-const DONE: u8 = 1;
+use bits::Refusal;
 
-const SPENT: u8 = 2;
+// How a run ended. Its numbers are part of the interface.
+#[derive(Clone, Copy, PartialEq, Eq)]
+pub enum End {
+    Refused = 0,
+    Done = 1,
+    Spent = 2,
+}
 
-// Bits of the status byte.
-const STATUS_DONE: u8 = 1;
+impl From<End> for u8 {
+    ghost from_gives = { λ end number. number ≡ end_number end };
 
-const STATUS_SPENT: u8 = 2;
-
-const STATUS_REFUSED: u8 = 4;
+    fn from(end: End) -> u8 {
+        end as u8
+    }
+}
 
 // How far a list was carried out: the operations run and their cycles.
 #[derive(Clone, Copy)]
@@ -37,123 +43,105 @@ pub struct Outcome {
     pub cycles: u32,
 }
 
-// The registers beside the words: the status and enable bytes, and the marks of waiting.
-#[derive(Clone, Copy)]
-pub struct Marks {
-    pub status: u8,
-    pub enable: u8,
-    pub waiting: u8,
-    pub left: u32,
+impl From<Refusal> for Outcome {
+    ghost from_gives = { λ refusal answer. answer ≡ record { refusal = number_of refusal; «end» = 0; ran = 0; cycles = 0 } };
+
+    fn from(refusal: Refusal) -> Outcome {
+        Outcome {
+            refusal: u8::from(refusal),
+            end: u8::from(End::Refused),
+            ran: 0,
+            cycles: 0,
+        }
+    }
 }
 
-// A run's answer, and the marks after it.
+// The bytes of whole operations, at most 1,024.
 #[derive(Clone, Copy)]
-pub struct Performed {
-    pub run: Outcome,
-    pub marks: Marks,
+pub struct Operations<'a> {
+    pub bytes: &'a [u8],
+    pub ghost whole: { length bytes.now % 4 ≡ 0 },
+    pub ghost within: { length bytes.now ≤ 4096 },
 }
 
-// A run's answer, and the registers after it.
-#[derive(Clone, Copy)]
-pub struct Ran {
-    pub run: Outcome,
-    pub registers: unit::Registers,
-}
-
-// internal: whole operations. The lowest refusal of any of them, or that of another run; 0 if there is none.
-fn operations_refusal(other: bool, ops: &[u8]) -> u8
-    requires { length ops.now % 4 ≡ 0 }
-    ensures { result ≡ operations_refusal other (operations_of ops.now) }
+// The lowest refusal of any operation of the list, or that of another run.
+fn check_operations(other: bool, ops: &[u8]) -> Result<(), Refusal>
+    ensures { number_in result ≡ operations_refusal other (operations_of ops.now) }
 {
     let mut registers = true;
-    let mut at: usize = 0;
-    while at < ops.len() {
-        if !unit::is_kind(ops[at], ops[at + 1]) {
-            return bits::KIND;
+    for operation in ops.chunks_exact(4) {
+        if !unit::is_kind(operation[0], operation[1]) {
+            return Err(Refusal::Kind);
         }
-        registers = registers & unit::are_registers(ops[at], ops[at + 1], ops[at + 2], ops[at + 3]);
-        at += 4;
+        registers &= unit::are_registers(operation[0], operation[1], operation[2], operation[3]);
     }
     if !registers {
-        return bits::REGISTER;
+        return Err(Refusal::Register);
     }
     if other {
-        return bits::WAITING;
+        return Err(Refusal::Waiting);
     }
-    bits::CARRIED_OUT
+    Ok(())
 }
 
-// The lowest refusal of a run's list, or that of another run (`other`); 0 if it is carried out.
-pub fn run_refusal(other: bool, ops: &[u8]) -> u8
-    ensures { result ≡ run_refusal other ops.now }
+// The operations of a run's list; or its lowest refusal, or that of another run (`other`).
+pub fn run_refusal<'a>(other: bool, ops: &'a [u8]) -> Result<Operations<'a>, Refusal>
+    ensures { MatchResult result
+        (λ operations. (operations.bytes.now ≡ ops.now) × (run_refusal other ops.now ≡ 0))
+        (λ refusal. number_of refusal ≡ run_refusal other ops.now) }
 {
     if ops.len() % 4 != 0 {
-        return bits::LENGTH;
+        return Err(Refusal::Length);
     }
     if 4096 < ops.len() {
-        return bits::LENGTH;
+        return Err(Refusal::Length);
     }
-    operations_refusal(other, ops)
+    check_operations(other, ops)?;
+    Ok(Operations { bytes: ops })
 }
 
-// internal: the words of the registers, and whole operations, at most 1,024. They are carried out while the next one's cycles fit in what is left of the budget.
-fn go_on(
-    general: &mut [u64; 16],
-    b: &mut [u64; 3],
-    ib: &mut [u64; 3],
-    ops: &[u8],
-    budget: u32,
-) -> Turn
-    requires { Sized general.old b.old ib.old × (length ops.now % 4 ≡ 0) × (length ops.now ≤ 4096) }
-    ensures { reaching result (registers_of general.new b.new ib.new) ≡ turn_of (registers_of general.old b.old ib.old) (operations_of ops.now) budget }
+// The operations are carried out while the next one's cycles fit in what is left of the budget.
+fn go_on(registers: &mut unit::Registers, ops: Operations, budget: u32) -> Turn
+    ensures { reaching result registers.new ≡ turn_of registers.old (operations_of ops.entry.bytes.now) budget }
 {
-    let mut falling = unit::kept_for(false, [0u64; 3]);
-    let mut rising = unit::kept_for(true, [0u64; 3]);
+    let mut networks = unit::Networks::new();
     let mut left = budget;
-    let mut at: usize = 0;
-    while at < ops.len() {
-        let cycles = unit::cycles_of(ops[at]);
+    let mut ran = 0;
+    for operation in ops.bytes.chunks_exact(4) {
+        let cycles = unit::cycles_of(operation[0]);
         if left < cycles {
-            return reached(at, budget - left);
+            break;
         }
-        unit::step(general, b, ib, &mut falling, &mut rising, ops, at);
+        unit::step(registers, &mut networks, operation);
         left -= cycles;
-        at += 4;
+        ran += 1;
     }
-    reached(at, budget - left)
-}
-
-// internal: bytes of a list. The operations that they are, with their cycles.
-fn reached(bytes: usize, cycles: u32) -> Turn
-    requires { bytes ≤ 4096 }
-    ensures { result ≡ record { ran = bytes / 4; cycles = cycles } }
-{
-    let ran = (bytes / 4) as u32;
-    Turn { ran, cycles }
-}
-
-// internal: whole operations, at most 1,024, and not more run than there are. How their run ended.
-fn end_of(ops: &[u8], ran: u32) -> u8
-    requires { (length ops.now % 4 ≡ 0) × (length ops.now ≤ 4096) × (4 * ran ≤ length ops.now) }
-    ensures { result ≡ end_of ran (operations_of ops.now) }
-{
-    if 4 * (ran as usize) < ops.len() {
-        return SPENT;
+    Turn {
+        ran,
+        cycles: budget - left,
     }
-    DONE
 }
 
-// The bit of the status byte that a run's end sets, as a byte.
+// internal: not more operations run than there are. How their run ended.
+fn end_of(ops: Operations, ran: u32) -> End
+    requires { 4 * ran ≤ length ops.bytes.now }
+    ensures { end_number result ≡ end_of ran (operations_of ops.entry.bytes.now) }
+{
+    if 4 * (ran as usize) < ops.bytes.len() {
+        return End::Spent;
+    }
+    End::Done
+}
+
+// The bit of the status byte that a run's end sets, as a byte. (By the end's number: `status_after` promises it of every number.)
 fn status_mark(end: u8) -> u8
     ensures { result ≡ 2 ^ status_bit «end» }
 {
-    if end == DONE {
-        return STATUS_DONE;
+    match end {
+        1 => 1,
+        2 => 2,
+        _ => 4,
     }
-    if end == SPENT {
-        return STATUS_SPENT;
-    }
-    STATUS_REFUSED
 }
 
 // The status byte with the bit of a run's end set.
@@ -164,245 +152,147 @@ pub fn status_after(status: u8, end: u8) -> u8
     status | mark
 }
 
-// internal: a bank's list, and not more bytes than it has. They stand at its start then.
+// The end of a run noted in the status byte.
+pub fn note(registers: &mut unit::Registers, end: End)
+    ensures { registers.new ≡ marked_by registers.old (end_number «end») }
+{
+    registers.status = status_after(registers.status, u8::from(end));
+}
+
+// internal: not more bytes than a bank's list has. They stand at its start then. (By a loop: `copy_from_slice` calls memmove, and of the C library the
+// archive may need memcpy and memset alone: the conformance test without_a_c_library.)
 fn remember(list: &mut [u8; 4096], rest: &[u8])
     requires { (length list.old ≡ 4096) × (length rest.now ≤ 4096) }
     ensures { list.new ≡ rest.now ++ drop (length rest.now) list.old }
 {
-    let mut at: usize = 0;
-    while at < rest.len() {
-        list[at] = rest[at];
-        at += 1;
+    for (at, byte) in rest.iter().enumerate() {
+        list[at] = *byte;
     }
 }
 
-// internal: a bank's marks and list, and whole operations, at most 1,024, of which `ran` have been run on it. The end of their run: the bank waits for the others, or
-// no longer, and its status has the end's bit.
-fn finish(marks: Marks, list: &mut [u8; 4096], ops: &[u8], ran: u32) -> Marks
-    requires { (length list.old ≡ 4096) × (length ops.now % 4 ≡ 0) × (length ops.now ≤ 4096) × (4 * ran ≤ length ops.now) }
-    ensures { bank_of (with_marks fresh result) list.new ≡ ended_of (bank_of (with_marks fresh marks) list.old) ops.now ran }
+// internal: `ran` of the operations have been run on the bank. Their run ends: the bank waits for the others, or no longer, and its status has the end's bit.
+fn finish(bank: &mut unit::Bank, ops: Operations, ran: u32) -> End
+    requires { 4 * ran ≤ length ops.bytes.now }
+    ensures end { end_number result ≡ end_of ran (operations_of ops.entry.bytes.now) }
+    ensures bank { bank.new ≡ ended_of bank.old ops.entry.bytes.now ran }
 {
     let end = end_of(ops, ran);
-    let mut after = marks;
-    after.status = status_after(marks.status, end);
-    if end != SPENT {
-        after.waiting = 0;
-        return after;
+    note(&mut bank.registers, end);
+    if end == End::Done {
+        bank.registers.waiting = 0;
+        return end;
     }
-    let start = unit::bytes_of(ran);
-    let rest = &ops[start..];
-    remember(list, rest);
-    after.waiting = 1;
-    after.left = rest.len() as u32;
-    after
+    let rest = &ops.bytes[unit::bytes_of(ran)..];
+    remember(&mut bank.list, rest);
+    bank.registers.waiting = 1;
+    bank.registers.left = rest.len() as u32;
+    end
 }
 
-// What a refused run answers: its number, zeros beside it, and the marks as they were but for the status bit.
-fn turned_back(marks: Marks, number: u8) -> Performed
-    ensures { result ≡ record { run = record { refusal = number; «end» = 0; ran = 0; cycles = 0 }; marks = marks_of (marked_by (with_marks fresh marks) 0) } }
+// A run of the operations on the bank, or the refusal, which sets a status bit alone.
+pub fn perform(bank: &mut unit::Bank, checked: Result<Operations, Refusal>, budget: u32) -> Outcome
+    ensures { MatchResult checked.entry
+        (λ operations. leaving result bank.new ≡ carried_out bank.old operations.bytes.now budget)
+        (λ refusal. leaving result bank.new ≡ refused_of bank.old (number_of refusal)) }
 {
-    let mut after = marks;
-    after.status = status_after(marks.status, 0);
-    Performed {
-        run: Outcome {
-            refusal: number,
-            end: 0,
-            ran: 0,
-            cycles: 0,
-        },
-        marks: after,
+    match checked {
+        Ok(ops) => {
+            let turn = go_on(&mut bank.registers, ops, budget);
+            let end = finish(bank, ops, turn.ran);
+            Outcome {
+                refusal: bits::CARRIED_OUT,
+                end: u8::from(end),
+                ran: turn.ran,
+                cycles: turn.cycles,
+            }
+        }
+        Err(refusal) => {
+            note(&mut bank.registers, End::Refused);
+            Outcome::from(refusal)
+        }
     }
 }
 
-// internal: a bank by its words, marks and list, and where nothing is refused whole operations, at most 1,024. A run of them on it, or the refusal.
-pub fn perform(
-    refused: u8,
-    general: &mut [u64; 16],
-    b: &mut [u64; 3],
-    ib: &mut [u64; 3],
-    marks: Marks,
-    list: &mut [u8; 4096],
-    ops: &[u8],
-    budget: u32,
-) -> Performed
-    requires { Sized general.old b.old ib.old × (length list.old ≡ 4096) × (refused ≡ 0 → (length ops.now % 4 ≡ 0) × (length ops.now ≤ 4096)) }
-    ensures { leaving result.run (bank_of (with_marks (registers_of general.new b.new ib.new) result.marks) list.new)
-        ≡ performed_by refused (bank_of (with_marks (registers_of general.old b.old ib.old) marks) list.old) ops.now budget }
+// A run of the operations on the bank within a budget of cycles: done or spent, the operations run and their cycles; or the lowest refusal of the whole list, and
+// every word as it was. Its end sets a status bit, refused or not. Spent, the bank waits for the operations left.
+pub fn run(bank: &mut unit::Bank, ops: &[u8], budget: u32) -> Outcome
+    ensures { leaving result bank.new ≡ run_of bank.old ops.now budget }
 {
-    if refused != 0 {
-        return turned_back(marks, refused);
-    }
-    let turn = go_on(general, b, ib, ops, budget);
-    let end = end_of(ops, turn.ran);
-    let after = finish(marks, list, ops, turn.ran);
-    Performed {
-        run: Outcome {
-            refusal: 0,
-            end,
-            ran: turn.ran,
-            cycles: turn.cycles,
-        },
-        marks: after,
-    }
+    let other = bank.registers.waiting != 0;
+    let checked = run_refusal(other, ops);
+    perform(bank, checked, budget)
 }
 
-// The marks of registers.
-pub fn marks_of(registers: unit::Registers) -> Marks
-    ensures { result ≡ marks_of registers }
-{
-    Marks {
-        status: registers.status,
-        enable: registers.enable,
-        waiting: registers.waiting,
-        left: registers.left,
-    }
-}
-
-// A run's answer with the registers of these words.
-pub fn ran_at(after: Performed, general: [u64; 16], b: [u64; 3], ib: [u64; 3]) -> Ran
-    ensures { result ≡ record { run = after.run; registers = with_marks (registers_of general b ib) after.marks } }
-{
-    let run = after.run;
-    let marks = after.marks;
-    Ran {
-        run,
-        registers: unit::Registers {
-            general,
-            b,
-            ib,
-            status: marks.status,
-            enable: marks.enable,
-            waiting: marks.waiting,
-            left: marks.left,
-        },
-    }
-}
-
-// internal: a bank's list. A run of the operations on the bank within a budget of cycles: done or spent, the operations run and their cycles; or the lowest refusal
-// of the whole list, and every word as it was. Its end sets a status bit, refused or not. Spent, the bank waits for the operations left.
-pub fn run(registers: unit::Registers, list: &mut [u8; 4096], ops: &[u8], budget: u32) -> Ran
-    requires { length list.old ≡ 4096 }
-    ensures { leaving result.run (bank_of result.registers list.new) ≡ run_of (bank_of registers list.old) ops.now budget }
-{
-    let mut general = registers.general;
-    let mut b = registers.b;
-    let mut ib = registers.ib;
-    let marks = marks_of(registers);
-    let other = marks.waiting != 0;
-    let refused = run_refusal(other, ops);
-    let after = perform(
-        refused,
-        &mut general,
-        &mut b,
-        &mut ib,
-        marks,
-        list,
-        ops,
-        budget,
-    );
-    ran_at(after, general, b, ib)
-}
-
-// internal: a bank's list, and not more bytes than it has. Whether its first bytes are these. No branch depends on a byte.
-fn starts_with(list: &[u8; 4096], ops: &[u8]) -> bool
-    requires { (length list.now ≡ 4096) × (length ops.now ≤ 4096) }
-    ensures { result ≡ same (take (length ops.now) list.now) ops.now }
+// internal: not more bytes than the bank's list has. Whether its first bytes are these. No branch depends on a byte (std's `starts_with` and
+// `==` end at the first that differs).
+fn starts_with(bank: &unit::Bank, ops: &[u8]) -> bool
+    requires { length ops.now ≤ 4096 }
+    ensures { result ≡ same (take (length ops.now) bank.now.list) ops.now }
 {
     let mut same = true;
-    let mut at: usize = 0;
-    while at < ops.len() {
-        same = same & (list[at] == ops[at]);
-        at += 1;
+    for (own, byte) in bank.list.iter().zip(ops) {
+        same &= *own == *byte;
     }
     same
 }
 
-// internal: a bank's list. Whether the operations are the remainder that the bank remembers.
-pub fn is_remainder(left: u32, list: &[u8; 4096], ops: &[u8]) -> bool
-    requires { length list.now ≡ 4096 }
-    ensures { result ≡ is_remainder left list.now ops.now }
+// Whether the operations are the remainder that the bank remembers.
+pub fn is_remainder(bank: &unit::Bank, ops: &[u8]) -> bool
+    ensures { result ≡ is_remainder bank.now.registers.left bank.now.list ops.now }
 {
+    let left = bank.registers.left;
     if ops.len() != left as usize {
         return false;
     }
     if 4096 < left {
         return false;
     }
-    starts_with(list, ops)
+    starts_with(bank, ops)
 }
 
-// internal: a bank's list. A run continued: as a run, where the bank waits and the operations are its remainder.
-pub fn continue_run(
-    registers: unit::Registers,
-    list: &mut [u8; 4096],
-    ops: &[u8],
-    budget: u32,
-) -> Ran
-    requires { length list.old ≡ 4096 }
-    ensures { leaving result.run (bank_of result.registers list.new) ≡ continue_of (bank_of registers list.old) ops.now budget }
+// A run continued: as a run, where the bank waits and the operations are its remainder.
+pub fn continue_run(bank: &mut unit::Bank, ops: &[u8], budget: u32) -> Outcome
+    ensures { leaving result bank.new ≡ continue_of bank.old ops.now budget }
 {
-    let mut general = registers.general;
-    let mut b = registers.b;
-    let mut ib = registers.ib;
-    let marks = marks_of(registers);
-    let waits = marks.waiting != 0;
-    let remainder = is_remainder(marks.left, list, ops);
-    let refused = run_refusal(!(waits & remainder), ops);
-    let after = perform(
-        refused,
-        &mut general,
-        &mut b,
-        &mut ib,
-        marks,
-        list,
-        ops,
-        budget,
-    );
-    ran_at(after, general, b, ib)
+    let waits = bank.registers.waiting != 0;
+    let remainder = is_remainder(bank, ops);
+    let checked = run_refusal(!(waits & remainder), ops);
+    perform(bank, checked, budget)
 }
 
-// The registers of a bank that no longer waits.
-pub fn drop(registers: unit::Registers) -> unit::Registers
-    ensures { result ≡ drop_of registers }
+// The bank no longer waits.
+pub fn drop(registers: &mut unit::Registers)
+    ensures { registers.new ≡ drop_of registers.old }
 {
-    let mut dropped = registers;
-    dropped.waiting = 0;
-    dropped
+    registers.waiting = 0;
 }
 
 // The status byte as it reads: bits 0 to 2.
-pub fn status(registers: unit::Registers) -> u8
-    ensures { result ≡ status_of registers }
+pub fn status(registers: &unit::Registers) -> u8
+    ensures { result ≡ status_of registers.now }
 {
     registers.status % 8
 }
 
-// The registers with a byte in the enable byte.
-pub fn enable(registers: unit::Registers, byte: u8) -> unit::Registers
-    ensures { result ≡ with_enable registers byte }
+// A byte into the enable byte.
+pub fn enable(registers: &mut unit::Registers, byte: u8)
+    ensures { registers.new ≡ with_enable registers.old byte }
 {
-    let mut after = registers;
-    after.enable = byte;
-    after
+    registers.enable = byte;
 }
 
-// The registers with the status bits cleared where the byte has ones.
-pub fn acknowledge(registers: unit::Registers, byte: u8) -> unit::Registers
-    ensures { result ≡ acknowledge_of registers byte }
+// The status bits cleared where the byte has ones.
+pub fn acknowledge(registers: &mut unit::Registers, byte: u8)
+    ensures { registers.new ≡ acknowledge_of registers.old byte }
 {
-    let mut after = registers;
-    after.status = registers.status & !byte;
-    after
+    registers.status &= !byte;
 }
 
 // The interrupt line: 1 if some bit is one both in the status as it reads and in the enable byte, else 0.
-pub fn interrupt(registers: unit::Registers) -> u8
-    ensures { result ≡ interrupt_of registers }
+pub fn interrupt(registers: &unit::Registers) -> u8
+    ensures { result ≡ interrupt_of registers.now }
 {
     let enabled = registers.enable;
     let both = status(registers) & enabled;
-    if both == 0 {
-        return 0;
-    }
-    1
+    u8::from(both != 0)
 }

@@ -7,9 +7,15 @@ use native.Mathlib.Omega.{arith}
 use native.Mathlib.Nat.{mod-eq_of_lt, mul-zero, mul-one, pow-zero, div-one}
 use Rattle.bits.proofs.Word.{digit}
 use Rattle.subwords.specs.Subword.{subword, woven, check_of, exchange_pairs_of, excheck_of, mix_left_of, mix_right_of, is_size}
-use Rattle.subwords.specs.Halves.{halves_of}
-use Rattle.subwords.proofs.Sizes.{size-fills, size-lt}
+use Rattle.subwords.specs.declared.Half.{Half}
+use Rattle.subwords.specs.declared.Half.TheVariants.{Left, Right}
+use Rattle.subwords.specs.Halves.{place_of, halves_of}
+use Rattle.subwords.proofs.Sizes.{size-fills}
 use Rattle.subwords.proofs.Weaving.{woven-same, subword-up, subword-down}
+
+pub place-lt : (half : Half) → place_of half < 2
+place-lt Left = omega arith
+place-lt Right = omega arith
 
 module _ (z : ℕ) (size : is_size z ≡ true) where
   -- a half that stands at the other side is brought over by a shift
@@ -39,13 +45,6 @@ module _ (z : ℕ) (size : is_size z ≡ true) where
   unfolding halves_of
   halves-shifted x y b hh hk =
       woven-same z (32 / z) (size-fills z size) _ _ _ _ (λ i n e. to-left x b hh i n) (λ i n e. to-right y hk i n e)
-
-  pub shift-lt : (h : ℕ) → h < 2 → z * h < 64
-  shift-lt h l = by (digit h l)
-    where
-      by : (h ≡ 0) ⊎ (h ≡ 1) → z * h < 64
-      by (inl e) = rw (e, mul-zero z) (omega arith)
-      by (inr e) = rw (e, mul-one z) (size-lt z size)
 
   -- the operations
 

@@ -1,7 +1,7 @@
 // The exported C functions, declared in include/tigbayon.h: all calls of paper 01 ('Lines, masks, orders' to 'The register unit'), those of
 // prepared networks, and of paper 02 the bit planes, tiles, subwords, planes of pixels, permutations by groups, the status and continued runs of the register
 // unit, and frames of four channels. Each hands its arguments to one call. No logic is here, and each promise is that call's. The host lends its register bank, to
-// a frame four: the registers are copied out, and what the call leaves is stored back; the list is lent on to a run or a frame.
+// a frame four; the bank, or its registers, are lent on.
 #![tactic(auto)]
 
 ghost use Rattle.std.specs.Prelude.{◌≡◌, true, false, [], ◌∷◌, reverse};
@@ -260,9 +260,7 @@ pub extern "C" fn tb_operate(
 ) -> unit::Cycles
     ensures { leaving result bank.new ≡ operate_lent bank.old kind r1 r2 r3 }
 {
-    let after = unit::operate(bank.registers, kind, r1, r2, r3);
-    bank.registers = after.registers;
-    after.answer
+    unit::operate(&mut bank.registers, kind, r1, r2, r3)
 }
 
 // A run on a lent bank.
@@ -270,9 +268,7 @@ pub extern "C" fn tb_operate(
 pub extern "C" fn tb_run(bank: &mut unit::Bank, ops: &[u8], budget: u32) -> runs::Outcome
     ensures { leaving result bank.new ≡ run_of bank.old ops.now budget }
 {
-    let after = runs::run(bank.registers, &mut bank.list, ops, budget);
-    bank.registers = after.registers;
-    after.run
+    runs::run(bank, ops, budget)
 }
 
 // A run that waits on a lent bank, continued.
@@ -280,9 +276,7 @@ pub extern "C" fn tb_run(bank: &mut unit::Bank, ops: &[u8], budget: u32) -> runs
 pub extern "C" fn tb_continue(bank: &mut unit::Bank, ops: &[u8], budget: u32) -> runs::Outcome
     ensures { leaving result bank.new ≡ continue_of bank.old ops.now budget }
 {
-    let after = runs::continue_run(bank.registers, &mut bank.list, ops, budget);
-    bank.registers = after.registers;
-    after.run
+    runs::continue_run(bank, ops, budget)
 }
 
 // Four channels in one frame, each on a lent bank.
@@ -303,27 +297,15 @@ pub extern "C" fn tb_frame(
         ≡ frame_of (brought_by (bank0.old ∷ bank1.old ∷ bank2.old ∷ bank3.old ∷ [])
         (list0.now ∷ list1.now ∷ list2.now ∷ list3.now ∷ []) guarantees.now) cycles }
 {
-    let after = frame::run_frame(
-        bank0.registers,
-        bank1.registers,
-        bank2.registers,
-        bank3.registers,
-        &mut bank0.list,
-        &mut bank1.list,
-        &mut bank2.list,
-        &mut bank3.list,
-        list0,
-        list1,
-        list2,
-        list3,
+    frame::run_frame(
+        bank0,
+        bank1,
+        bank2,
+        bank3,
+        [list0, list1, list2, list3],
         guarantees,
         cycles,
-    );
-    bank0.registers = after.registers0;
-    bank1.registers = after.registers1;
-    bank2.registers = after.registers2;
-    bank3.registers = after.registers3;
-    after.frame
+    )
 }
 
 // A lent bank that no longer waits.
@@ -331,8 +313,7 @@ pub extern "C" fn tb_frame(
 pub extern "C" fn tb_drop(bank: &mut unit::Bank)
     ensures { bank.new ≡ drop_lent bank.old }
 {
-    let after = runs::drop(bank.registers);
-    bank.registers = after;
+    runs::drop(&mut bank.registers);
 }
 
 // The value of one general register of a lent bank.
@@ -340,7 +321,7 @@ pub extern "C" fn tb_drop(bank: &mut unit::Bank)
 pub extern "C" fn tb_read(bank: &unit::Bank, number: u8) -> unit::Register
     ensures { result ≡ read_of bank.now.registers number }
 {
-    unit::read(bank.registers, number)
+    unit::read(&bank.registers, number)
 }
 
 // A value into one general register of a lent bank.
@@ -348,9 +329,7 @@ pub extern "C" fn tb_read(bank: &unit::Bank, number: u8) -> unit::Register
 pub extern "C" fn tb_write(bank: &mut unit::Bank, number: u8, value: u64) -> u8
     ensures { leaving result bank.new ≡ write_lent bank.old number value }
 {
-    let after = unit::write(bank.registers, number, value);
-    bank.registers = after.registers;
-    after.refusal
+    unit::write(&mut bank.registers, number, value)
 }
 
 // The status of a lent bank.
@@ -358,7 +337,7 @@ pub extern "C" fn tb_write(bank: &mut unit::Bank, number: u8, value: u64) -> u8
 pub extern "C" fn tb_status(bank: &unit::Bank) -> u8
     ensures { result ≡ status_of bank.now.registers }
 {
-    runs::status(bank.registers)
+    runs::status(&bank.registers)
 }
 
 // A byte into the enable byte of a lent bank.
@@ -366,8 +345,7 @@ pub extern "C" fn tb_status(bank: &unit::Bank) -> u8
 pub extern "C" fn tb_enable(bank: &mut unit::Bank, byte: u8)
     ensures { bank.new ≡ enable_lent bank.old byte }
 {
-    let after = runs::enable(bank.registers, byte);
-    bank.registers = after;
+    runs::enable(&mut bank.registers, byte);
 }
 
 // Status bits of a lent bank cleared.
@@ -375,8 +353,7 @@ pub extern "C" fn tb_enable(bank: &mut unit::Bank, byte: u8)
 pub extern "C" fn tb_acknowledge(bank: &mut unit::Bank, byte: u8)
     ensures { bank.new ≡ acknowledge_lent bank.old byte }
 {
-    let after = runs::acknowledge(bank.registers, byte);
-    bank.registers = after;
+    runs::acknowledge(&mut bank.registers, byte);
 }
 
 // The interrupt line of a lent bank.
@@ -384,5 +361,5 @@ pub extern "C" fn tb_acknowledge(bank: &mut unit::Bank, byte: u8)
 pub extern "C" fn tb_interrupt(bank: &unit::Bank) -> u8
     ensures { result ≡ interrupt_of bank.now.registers }
 {
-    runs::interrupt(bank.registers)
+    runs::interrupt(&bank.registers)
 }

@@ -7,7 +7,7 @@ use Rattle.bits.proofs.Computed.{every}
 use Rattle.network.specs.Stage.{partner}
 use Rattle.subwords.specs.Subword.{exchange_pairs_of, is_size}
 use Rattle.tiles.specs.Tile.{Rule, columns_rule, rows_rule, goes_to, moved, Inverse}
-use Rattle.tiles.specs.Steps.{mirror_of}
+use Rattle.tiles.specs.Steps.{exchanges_of, mirror_of}
 use Rattle.tiles.proofs.MarkedPlaces.{sent-pairs}
 use Rattle.tiles.proofs.Moves.{sent-three}
 use Rattle.tiles.proofs.Theorems.{columns-inverse, rows-inverse}
@@ -22,9 +22,9 @@ exchanges-move f i a b c ha hb hc t x =
     sent-three f f i (partner a) (partner b) (partner c) t x _ _ _ (sent-pairs a ha x) (sent-pairs b hb _) (sent-pairs c hc _)
 
 pub rows-mirrored : (x : ℕ) → mirror_of 0 x ≡ moved rows_rule x
-unfolding mirror_of every partner
+unfolding mirror_of exchanges_of every partner
 rows-mirrored = exchanges-move rows_rule rows-inverse 8 16 32 refl refl refl refl
 
 pub columns-mirrored : (x : ℕ) → mirror_of 3 x ≡ moved columns_rule x
-unfolding mirror_of every partner
+unfolding mirror_of exchanges_of every partner
 columns-mirrored = exchanges-move columns_rule columns-inverse 1 2 4 refl refl refl refl

@@ -16,14 +16,17 @@ pub fn transpose(tile: u64) -> u64
     network::exchange_marked(28, 0x00000000F0F0F0F0, fours)
 }
 
-// internal: three sizes of the networks' table, from the last: neighbours are exchanged, then pairs of them, then fours.
+// internal: three sizes of the networks' table, from the last: neighbours are exchanged, then pairs of them, then fours. (The first of the sizes
+// is a number, which the edit columns_mirror_is_rows turns.)
 fn mirrored(first: usize, tile: u64) -> u64
     requires { first ≤ 3 }
     ensures { result ≡ mirror_of first tile }
 {
-    let pairs = subwords::exchange_at(first + 2, tile);
-    let fours = subwords::exchange_at(first + 1, pairs);
-    subwords::exchange_at(first, fours)
+    let mut turned = tile;
+    for index in (first..first + 3).rev() {
+        turned = subwords::exchange_at(index, turned);
+    }
+    turned
 }
 
 // Row 0 becomes row 7: the bytes of the word in reversed order.

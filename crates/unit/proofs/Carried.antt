@@ -1,14 +1,13 @@
 -- Reqs 09 and 10: an operation sees words alone, and carries the rest along. Assumes nothing.
 use mathlib.Core.Path.{◌≡◌, refl, sym, ◌∙◌, ap}
 use mathlib.Core.Bool.{Bool, true, false, cond}
-use mathlib.Core.List.{List}
 use Prim.Native.Nat.{ℕ}
 use lib.Dec.{eqb}
 use Rattle.unit.specs.declared.Registers.{Registers}
-use Rattle.unit.specs.Bank.{with_words, with_register, waits}
+use Rattle.unit.specs.Bank.{with_register, waits}
 use Rattle.unit.specs.Operation.{cycles_of, operation_refusal, loads, load_of, effects, effect_of, step_of, Operation, step_by}
 use Rattle.unit.specs.Calls.{operated, written, operate_of, number_refusal, write_of}
-use Rattle.unit.specs.Lent.{registers_of, bare, carrying}
+use Rattle.unit.specs.Lent.{bare, carrying}
 use Rattle.unit.proofs.Tables.{by-entry, absent-other}
 
 module _ (k : Registers) where
@@ -27,10 +26,6 @@ module _ (k : Registers) where
 
   pub step-carries : (o : Operation) → step_by k o ≡ carrying k (step_by (bare k) o)
   step-carries o = effect-carries o.0 o.1 _ _
-
-  -- what it leaves of the words, as the code has them, beside all else as it was
-  pub carried-along : (o : Operation) {g b i : List ℕ} → registers_of g b i ≡ step_by (bare k) o → with_words k g b i ≡ step_by k o
-  carried-along o e = ap (carrying k) e ∙ sym (step-carries o)
 
   -- Single operations and writes, refused or not, change words alone: the status and enable bytes and the marks of waiting are as they were.
   pub operate-words : (kind r1 r2 r3 : ℕ) → let j = (operate_of k kind r1 r2 r3).registers in j ≡ carrying k j

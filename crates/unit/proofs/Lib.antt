@@ -1,7 +1,6 @@
 pub mod Held
 pub mod Tables
-pub mod RegistersTested
-pub mod LentRegisters
+pub mod TableRows
 pub mod Carried
 pub mod KeptNetworks
 pub mod LowestRefusals

@@ -7,12 +7,10 @@ use native.Mathlib.Omega.{arith}
 use Rattle.bits.specs.Refusal.{lowest, AnswersLowest}
 use Rattle.bits.proofs.Refusals.{answers-lowest}
 use Rattle.unit.specs.declared.Registers.{Registers}
-use Rattle.unit.specs.declared.Operated.{Operated}
 use Rattle.unit.specs.declared.Register.{Register}
-use Rattle.unit.specs.declared.Written.{Written}
 use Rattle.unit.specs.Bank.{register, with_register, waits}
 use Rattle.unit.specs.Operation.{cycles_of, is_kind, used_of, are_registers, operation_conditions, operation_refusal, step_of}
-use Rattle.unit.specs.Calls.{operated, written, operate_of, number_conditions, number_refusal, read_of, write_of}
+use Rattle.unit.specs.Calls.{Operated, Written, operated, written, operate_of, number_conditions, number_refusal, read_of, write_of}
 
 -- the refusal of an operation, from the outcomes of the tests
 pub operation-refusal-by : {other : Bool} (kind r1 r2 r3 : ℕ) {a b c : Bool} → is_kind kind r1 ≡ a → are_registers (used_of kind r1 r2 r3) ≡ b → other ≡ c

@@ -4,13 +4,20 @@ use Rattle.bits.specs.Refusal.{lowest}
 use Rattle.unit.specs.declared.Registers.{Registers}
 use Rattle.unit.specs.declared.Bank.{Bank}
 use Rattle.unit.specs.declared.Cycles.{Cycles}
-use Rattle.unit.specs.declared.Operated.{Operated}
 use Rattle.unit.specs.declared.Register.{Register}
-use Rattle.unit.specs.declared.Written.{Written}
 use Rattle.unit.specs.Bank.{register, with_register, waits, with_registers, leaving}
 use Rattle.unit.specs.Operation.{cycles_of, operation_refusal, step_of, Operation}
 
--- an answer and the registers beside it
+-- an operation's answer, and the registers after it
+pub record Operated : Type 0 where
+  pub answer : Cycles
+  pub registers : Registers
+
+-- the refusal of a write, and the registers after it
+pub record Written : Type 0 where
+  pub refusal : ℕ
+  pub registers : Registers
+
 abbrev pub operated : Cycles → Registers → Operated
 operated a k = record { answer = a; registers = k }
 

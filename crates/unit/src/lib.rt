@@ -1,14 +1,17 @@
-// The register unit (paper 01, 'The register unit'; demand 2): its registers by value, one operation, reading and writing a general register.
+// The register unit (paper 01, 'The register unit'; demand 2): its registers, one operation on them, reading and writing a general register.
 #![tactic(auto)]
 
-ghost use Rattle.std.specs.Prelude.{◌≡◌, ◌+◌, ◌-◌, ◌*◌, ◌/◌, ◌%◌, ◌^◌, ◌<◌, true, false, cond, ◌++◌, reverse, leb, length, get_or, set, take};
-ghost use Rattle.network.specs.Decoder.{decode_of, decode_inverse_of};
+ghost use Rattle.std.specs.Prelude.{◌⊎◌, MatchResult, ◌≡◌, ◌+◌, ◌-◌, ◌*◌, ◌/◌, ◌%◌, ◌^◌, ◌<◌, true, false, cond, leb, length, replicate};
+ghost use Rattle.bits.specs.Refusal.{number_of, number_in};
 ghost use Rattle.network.specs.Stage.{butterfly_of, inverse_of};
 ghost use Rattle.network.specs.Word.{prepared_of};
-ghost use Rattle.unit.specs.Bank.{stages_of, packed_of};
-ghost use Rattle.unit.specs.Lent.{Sized, registers_of, loaded_at, kept_of, is_for, KeptNetwork};
-ghost use Rattle.unit.specs.Calls.{operated, operate_of, number_refusal, read_of, write_of};
-ghost use Rattle.unit.specs.Operation.{cycles_of, is_kind, used_of, are_registers, operation_refusal, operation_at, step_by};
+ghost use Rattle.unit.specs.Bank.{register, with_register, with_b, with_ib, stages_of, packed_of};
+ghost use Rattle.unit.specs.Kinds.{kind_number};
+ghost use Rattle.unit.specs.Lent.{loaded_at};
+ghost use Rattle.unit.specs.Calls.{operate_of, number_refusal, read_of, write_of};
+ghost use Rattle.unit.specs.Operation.{cycles_of, is_kind, used_of, are_registers, operation_refusal, load_of, operation_at, step_by};
+
+use bits::Refusal;
 
 // The registers of the unit: sixteen general ones, and the controls of both networks, two stages a register, the earlier one in the low half; the status byte,
 // and the byte that says which of its bits raise the interrupt line; of a run that waits, that it does (not zero), and how many bytes of its list are left.
@@ -32,31 +35,6 @@ pub struct Bank {
     pub list: [u8; 4096],
 }
 
-// The table's figures, by kind: a hexadecimal digit each, kind 0 at the right. (An array would be built anew at each look.)
-const CYCLES: u64 = 0x32233111110;
-
-// internal: sixteen general registers. Register `number`.
-fn general_at(general: &[u64; 16], number: u8) -> u64
-    requires { length general.now ≡ 16 }
-    ensures { result ≡ get_or general.now number 0 }
-{
-    if 15 < number {
-        return 0;
-    }
-    general[number as usize]
-}
-
-// internal: sixteen general registers. A value into register `number`.
-fn put(general: &mut [u64; 16], number: u8, value: u64)
-    requires { length general.old ≡ 16 }
-    ensures { general.new ≡ set general.old number value }
-{
-    if 15 < number {
-        return;
-    }
-    general[number as usize] = value;
-}
-
 // What one operation answers: 0 and its cycles, or the number of the refusal and a zero.
 #[repr(C)]
 #[derive(Clone, Copy)]
@@ -65,11 +43,15 @@ pub struct Cycles {
     pub cycles: u32,
 }
 
-// An operation's answer, and the registers after it.
-#[derive(Clone, Copy)]
-pub struct Operated {
-    pub answer: Cycles,
-    pub registers: Registers,
+impl From<Refusal> for Cycles {
+    ghost from_gives = { λ refusal answer. answer ≡ record { refusal = number_of refusal; cycles = 0 } };
+
+    fn from(refusal: Refusal) -> Cycles {
+        Cycles {
+            refusal: u8::from(refusal),
+            cycles: 0,
+        }
+    }
 }
 
 // What reading a general register answers: 0 and the value, or the number of the refusal and a zero.
@@ -80,12 +62,68 @@ pub struct Register {
     pub value: u64,
 }
 
-// What writing a general register answers, and the registers after it.
-#[derive(Clone, Copy)]
-pub struct Written {
-    pub refusal: u8,
-    pub registers: Registers,
+impl From<Refusal> for Register {
+    ghost from_gives = { λ refusal answer. answer ≡ record { refusal = number_of refusal; value = 0 } };
+
+    fn from(refusal: Refusal) -> Register {
+        Register {
+            refusal: u8::from(refusal),
+            value: 0,
+        }
+    }
 }
+
+// The kinds of an operation, paper 01's table. (Lists are tested by the numbers: `is_kind` and `are_registers` have no branch.)
+#[derive(Clone, Copy)]
+enum Kind {
+    Butterfly = 1,
+    Inverse = 2,
+    InverseOfMasked = 3,
+    ButterflyMasked = 4,
+    Load = 5,
+    Gather = 6,
+    Scatter = 7,
+    DecodeInverse = 8,
+    Decode = 9,
+    Group = 10,
+}
+
+impl TryFrom<u8> for Kind {
+    type Error = Refusal;
+
+    ghost try_from_gives = { λ byte kind. MatchResult kind (λ k. kind_number k ≡ byte) (λ refusal. (byte ≡ 0) ⊎ (10 < byte)) };
+
+    fn try_from(byte: u8) -> Result<Kind, Refusal> {
+        match byte {
+            1 => Ok(Kind::Butterfly),
+            2 => Ok(Kind::Inverse),
+            3 => Ok(Kind::InverseOfMasked),
+            4 => Ok(Kind::ButterflyMasked),
+            5 => Ok(Kind::Load),
+            6 => Ok(Kind::Gather),
+            7 => Ok(Kind::Scatter),
+            8 => Ok(Kind::DecodeInverse),
+            9 => Ok(Kind::Decode),
+            10 => Ok(Kind::Group),
+            _ => Err(Refusal::Kind),
+        }
+    }
+}
+
+impl Kind {
+    // The mask of kinds 3 and 4, which is y; kinds 1 and 2 mask nothing.
+    fn mask(self, y: u64) -> u64
+        ensures { result ≡ cond (leb (kind_number self) 2) (2 ^ 64 - 1) y }
+    {
+        match self {
+            Kind::Butterfly | Kind::Inverse => u64::MAX,
+            _ => y,
+        }
+    }
+}
+
+// The table's figures, by kind: a hexadecimal digit each, kind 0 at the right. (An array would be built anew at each look.)
+const CYCLES: u64 = 0x32233111110;
 
 // The stage in the low half of a control register.
 fn low(register: u64) -> u32
@@ -108,17 +146,18 @@ fn joined(low: u32, high: u32) -> u64
     high as u64 * 0x100000000 + low as u64
 }
 
-// The stages that a triple of registers holds.
+// The stages that a triple of registers holds. (Written out, as in `packed`: by `array::from_fn` each would ask which half its index means.)
 fn stages_of(registers: [u64; 3]) -> [u32; 6]
     ensures { result ≡ stages_of registers }
 {
+    let [first, second, third] = registers;
     [
-        low(registers[0]),
-        high(registers[0]),
-        low(registers[1]),
-        high(registers[1]),
-        low(registers[2]),
-        high(registers[2]),
+        low(first),
+        high(first),
+        low(second),
+        high(second),
+        low(third),
+        high(third),
     ]
 }
 
@@ -133,106 +172,75 @@ fn packed(stages: [u32; 6]) -> [u64; 3]
     ]
 }
 
-// The stages, the last first.
-fn reversed(stages: [u32; 6]) -> [u32; 6]
-    ensures { result ≡ reverse stages }
-{
-    [
-        stages[5], stages[4], stages[3], stages[2], stages[1], stages[0],
-    ]
+// What is kept of a network: the words of its swaps, and the control registers that they are for.
+#[derive(Clone, Copy)]
+struct Network {
+    swaps: [u64; 6],
+    registers: [u64; 3],
 }
 
-// The swaps of the inverse (rising) or of the butterfly at a triple of registers.
-fn prepared(rising: bool, registers: [u64; 3]) -> [u64; 6]
-    ensures { result ≡ prepared_of rising 6 (stages_of registers) }
-{
-    let stages = stages_of(registers);
-    if rising {
-        return network::prepare(reversed(stages));
+impl Network {
+    // The inverse (rising) or the butterfly at control registers.
+    fn at(rising: bool, registers: [u64; 3]) -> Network
+        ensures swaps { result.swaps ≡ prepared_of rising 6 (stages_of registers) }
+        ensures registers { result.registers ≡ registers }
+    {
+        let mut stages = stages_of(registers);
+        if rising {
+            stages.reverse();
+        }
+        let swaps = network::prepare(stages);
+        Network { swaps, registers }
     }
-    network::prepare(stages)
-}
 
-// Six words of swaps, and after them the registers that they are for.
-fn beside(words: [u64; 6], registers: [u64; 3]) -> [u64; 9]
-    ensures { result ≡ words ++ registers }
-{
-    [
-        words[0],
-        words[1],
-        words[2],
-        words[3],
-        words[4],
-        words[5],
-        registers[0],
-        registers[1],
-        registers[2],
-    ]
-}
-
-// The words of swaps alone.
-fn words_of(kept: [u64; 9]) -> [u64; 6]
-    ensures { result ≡ take 6 kept }
-{
-    [kept[0], kept[1], kept[2], kept[3], kept[4], kept[5]]
-}
-
-// Both, for a triple of registers.
-pub fn kept_for(rising: bool, registers: [u64; 3]) -> [u64; 9]
-    ensures { result ≡ kept_of rising registers }
-{
-    beside(prepared(rising, registers), registers)
-}
-
-// internal: what is kept of a network, and a triple of registers. Whether it is for these.
-fn is_for(kept: &[u64; 9], registers: &[u64; 3]) -> bool
-    requires { (length kept.now ≡ 9) × (length registers.now ≡ 3) }
-    ensures { result ≡ is_for kept.now registers.now }
-{
-    (kept[6] == registers[0]) & (kept[7] == registers[1]) & (kept[8] == registers[2])
-}
-
-// internal: what is kept of the inverse (rising) or of the butterfly, and a triple of registers. It is made for these, unless it is so already.
-fn keep(rising: bool, kept: &mut [u64; 9], registers: &[u64; 3])
-    requires { KeptNetwork rising kept.old × (length registers.now ≡ 3) }
-    ensures { kept.new ≡ kept_of rising registers.now }
-{
-    if is_for(kept, registers) {
-        return;
+    // internal: the inverse (rising) or the butterfly. It is made for these control registers, unless it is so already.
+    fn keep(&mut self, rising: bool, registers: [u64; 3])
+        requires { self.old.swaps ≡ prepared_of rising 6 (stages_of self.old.registers) }
+        ensures swaps { self.new.swaps ≡ prepared_of rising 6 (stages_of registers) }
+        ensures registers { self.new.registers ≡ registers }
+    {
+        if self.registers != registers {
+            *self = Network::at(rising, registers);
+        }
     }
-    *kept = kept_for(rising, *registers);
 }
 
-// internal: what is kept of the butterfly, and a triple of registers. The word through it at these.
-fn butterfly_at(kept: &mut [u64; 9], registers: &[u64; 3], word: u64) -> u64
-    requires { KeptNetwork false kept.old × (length registers.now ≡ 3) }
-    ensures { (result ≡ butterfly_of 6 (stages_of registers.now) word) × KeptNetwork false kept.new }
-{
-    keep(false, kept, registers);
-    network::butterfly_prepared(words_of(*kept), word)
+// Both networks, as a run keeps them. (One type, `Network<const RISING: bool>`, is refused: no ghost field stands beside a
+// `bool` const parameter; a trait for two methods of two lines would be no plainer.)
+#[derive(Clone, Copy)]
+pub struct Networks {
+    butterfly: Network,
+    inverse: Network,
+    ghost falls: { butterfly.swaps ≡ prepared_of false 6 (stages_of butterfly.registers) },
+    ghost rises: { inverse.swaps ≡ prepared_of true 6 (stages_of inverse.registers) },
 }
 
-// internal: what is kept of the inverse, and a triple of registers. The word through it at these.
-fn inverse_at(kept: &mut [u64; 9], registers: &[u64; 3], word: u64) -> u64
-    requires { KeptNetwork true kept.old × (length registers.now ≡ 3) }
-    ensures { (result ≡ inverse_of 6 (stages_of registers.now) word) × KeptNetwork true kept.new }
-{
-    keep(true, kept, registers);
-    network::inverse_prepared(words_of(*kept), word)
-}
+impl Networks {
+    // Those of control registers that are zero.
+    pub fn new() -> Networks
+        ensures { (result.butterfly.registers ≡ replicate 3 0) × (result.inverse.registers ≡ replicate 3 0) }
+    {
+        Networks {
+            butterfly: Network::at(false, [0; 3]),
+            inverse: Network::at(true, [0; 3]),
+        }
+    }
 
-// The butterfly's controls for a mask, in a triple of registers.
-fn decoded(mask: u64) -> [u64; 3]
-    ensures { result ≡ packed_of (decode_of 6 mask) }
-{
-    packed(network::decode_64(mask))
-}
+    // A word through the butterfly at control registers.
+    fn butterfly(&mut self, registers: [u64; 3], word: u64) -> u64
+        ensures { result ≡ butterfly_of 6 (stages_of registers) word }
+    {
+        self.butterfly.keep(false, registers);
+        network::butterfly_prepared(self.butterfly.swaps, word)
+    }
 
-// The inverse's controls for a mask, in a triple of registers.
-fn decoded_inverse(mask: u64) -> [u64; 3]
-    ensures { result ≡ packed_of (decode_inverse_of 6 mask) }
-{
-    packed(network::decode_inverse_64(mask))
+    // A word through the inverse at control registers.
+    fn inverse(&mut self, registers: [u64; 3], word: u64) -> u64
+        ensures { result ≡ inverse_of 6 (stages_of registers) word }
+    {
+        self.inverse.keep(true, registers);
+        network::inverse_prepared(self.inverse.swaps, word)
+    }
 }
 
 // The cycles of a kind.
@@ -269,20 +277,30 @@ pub fn are_registers(kind: u8, r1: u8, r2: u8, r3: u8) -> bool
     !is_kind(kind, r1) | third & second & first
 }
 
-// The lowest refusal of an operation, where another run waits or not; 0 if it is carried out.
-fn operation_refusal(other: bool, kind: u8, r1: u8, r2: u8, r3: u8) -> u8
-    ensures { result ≡ operation_refusal other kind r1 r2 r3 }
+// The lowest refusal of an operation, where another run waits or not. (Its bytes go one by one, as `tb_operate` has them from C, in registers of the processor.)
+fn check_operation(other: bool, kind: u8, r1: u8, r2: u8, r3: u8) -> Result<(), Refusal>
+    ensures { number_in result ≡ operation_refusal other kind r1 r2 r3 }
 {
     if !is_kind(kind, r1) {
-        return bits::KIND;
+        return Err(Refusal::Kind);
     }
     if !are_registers(kind, r1, r2, r3) {
-        return bits::REGISTER;
+        return Err(Refusal::Register);
     }
     if other {
-        return bits::WAITING;
+        return Err(Refusal::Waiting);
     }
-    bits::CARRIED_OUT
+    Ok(())
+}
+
+// The refusal of a general register's number.
+fn check_number(number: u8) -> Result<(), Refusal>
+    ensures { number_in result ≡ number_refusal number }
+{
+    if 15 < number {
+        return Err(Refusal::Register);
+    }
+    Ok(())
 }
 
 // internal: three control registers, and 1 or 0. x and y into the first two, or x into the third: two stores, and no branch depends on which.
@@ -295,161 +313,103 @@ fn load_into(registers: &mut [u64; 3], odd: u64, x: u64, y: u64)
     registers[(2 - odd) as usize] = last;
 }
 
-// internal: three control registers each. Kind 5: words x and y, of registers r2 and r3, into control registers.
-fn load(b: &mut [u64; 3], ib: &mut [u64; 3], r1: u8, x: u64, y: u64)
-    requires { (length b.old ≡ 3) × (length ib.old ≡ 3) }
-    ensures { (b.new ≡ loaded_at r1 b.old x y) × (ib.new ≡ loaded_at (r1 - 2) ib.old x y) }
-{
-    if r1 == 0 {
-        return;
+impl Registers {
+    // General register `number`, 0 where there is none.
+    fn general_at(&self, number: u8) -> u64
+        ensures { result ≡ register self.now number }
+    {
+        self.general.get(number as usize).copied().unwrap_or(0)
     }
-    if 4 < r1 {
-        return;
-    }
-    let odd = (r1 % 2) as u64;
-    if r1 <= 2 {
-        load_into(b, odd, x, y);
-        return;
-    }
-    load_into(ib, odd, x, y);
-}
 
-// The mask of kinds 3 and 4, which is y; kinds 1 and 2 mask nothing.
-fn mask_of(kind: u8, y: u64) -> u64
-    ensures { result ≡ cond (leb kind 2) (2 ^ 64 - 1) y }
-{
-    if kind <= 2 {
-        return 0xFFFFFFFFFFFFFFFF;
+    // A value into general register `number`. (By `get_mut` the proof does not close: the array is lost where there is none.)
+    fn put(&mut self, number: u8, value: u64)
+        ensures { self.new ≡ with_register self.old number value }
+    {
+        if number <= 15 {
+            self.general[number as usize] = value;
+        }
     }
-    y
-}
 
-// internal: the words of the registers, what is kept of both networks, and an operation at byte `at`. The table of paper 01: the registers after it, if it is
-// accepted. Both operands are read before the result is written.
-pub fn step(
-    general: &mut [u64; 16],
-    b: &mut [u64; 3],
-    ib: &mut [u64; 3],
-    falling: &mut [u64; 9],
-    rising: &mut [u64; 9],
-    ops: &[u8],
-    at: usize,
-)
-    requires { Sized general.old b.old ib.old × KeptNetwork false falling.old × KeptNetwork true rising.old × (at + 3 < length ops.now) }
-    ensures { (registers_of general.new b.new ib.new ≡ step_by (registers_of general.old b.old ib.old) (operation_at ops.now at))
-        × KeptNetwork false falling.new × KeptNetwork true rising.new }
-{
-    let kind = ops[at];
-    let r1 = ops[at + 1];
-    let y = general_at(general, ops[at + 3]);
-    let x = general_at(general, ops[at + 2]);
-    match kind {
-        1 | 4 => put(general, r1, butterfly_at(falling, b, x) & mask_of(kind, y)),
-        2 | 3 => put(general, r1, inverse_at(rising, ib, x & mask_of(kind, y))),
-        5 => load(b, ib, r1, x, y),
-        6 => put(general, r1, gather::gather_64(y, x)),
-        7 => put(general, r1, gather::scatter_64(y, x)),
-        8 => *ib = decoded_inverse(y),
-        9 => *b = decoded(y),
-        10 => put(general, r1, gather::group_64(y, x)),
-        _ => {}
+    // Kind 5: words x and y, of registers r2 and r3, into control registers.
+    fn load(&mut self, r1: u8, x: u64, y: u64)
+        ensures { self.new ≡ load_of self.old r1 x y }
+    {
+        let odd = (r1 % 2) as u64;
+        match r1 {
+            1 | 2 => load_into(&mut self.b, odd, x, y),
+            3 | 4 => load_into(&mut self.ib, odd, x, y),
+            _ => {}
+        }
     }
 }
 
-// What a refused operation answers: its number, no cycles, and the registers as they were.
-fn turned_back(registers: Registers, number: u8) -> Operated
-    ensures { result ≡ operated (record { refusal = number; cycles = 0 }) registers }
+// internal: an operation, four bytes. The table of paper 01: the registers after it, if it is accepted. Both operands are read before the result is written.
+pub fn step(registers: &mut Registers, networks: &mut Networks, operation: &[u8])
+    requires { length operation.now ≡ 4 }
+    ensures { registers.new ≡ step_by registers.old (operation_at operation.now 0) }
 {
-    let answer = Cycles {
-        refusal: number,
-        cycles: 0,
+    let Ok(kind) = Kind::try_from(operation[0]) else {
+        return;
     };
-    Operated { answer, registers }
+    let r1 = operation[1];
+    let y = registers.general_at(operation[3]);
+    let x = registers.general_at(operation[2]);
+    match kind {
+        Kind::Butterfly | Kind::ButterflyMasked => {
+            registers.put(r1, networks.butterfly(registers.b, x) & kind.mask(y));
+        }
+        Kind::Inverse | Kind::InverseOfMasked => {
+            registers.put(r1, networks.inverse(registers.ib, x & kind.mask(y)));
+        }
+        Kind::Load => registers.load(r1, x, y),
+        Kind::Gather => registers.put(r1, gather::gather_64(y, x)),
+        Kind::Scatter => registers.put(r1, gather::scatter_64(y, x)),
+        Kind::DecodeInverse => registers.ib = packed(network::decode_inverse_64(y)),
+        Kind::Decode => registers.b = packed(network::decode_64(y)),
+        Kind::Group => registers.put(r1, gather::group_64(y, x)),
+    }
 }
 
 // One operation on the registers: its cycles, or the lowest refusal and the registers as they were.
-pub fn operate(registers: Registers, kind: u8, r1: u8, r2: u8, r3: u8) -> Operated
-    ensures { result ≡ operate_of registers kind r1 r2 r3 }
+pub fn operate(registers: &mut Registers, kind: u8, r1: u8, r2: u8, r3: u8) -> Cycles
+    ensures answer { result ≡ (operate_of registers.old kind r1 r2 r3).answer }
+    ensures registers { registers.new ≡ (operate_of registers.old kind r1 r2 r3).registers }
 {
-    let refused = operation_refusal(registers.waiting != 0, kind, r1, r2, r3);
-    if refused != 0 {
-        return turned_back(registers, refused);
+    match check_operation(registers.waiting != 0, kind, r1, r2, r3) {
+        Ok(()) => {
+            step(registers, &mut Networks::new(), &[kind, r1, r2, r3]);
+            Cycles {
+                refusal: bits::CARRIED_OUT,
+                cycles: cycles_of(kind),
+            }
+        }
+        Err(refusal) => Cycles::from(refusal),
     }
-    let mut general = registers.general;
-    let mut b = registers.b;
-    let mut ib = registers.ib;
-    let bytes = [kind, r1, r2, r3];
-    let mut falling = kept_for(false, [0u64; 3]);
-    let mut rising = kept_for(true, [0u64; 3]);
-    step(
-        &mut general,
-        &mut b,
-        &mut ib,
-        &mut falling,
-        &mut rising,
-        &bytes,
-        0,
-    );
-    Operated {
-        answer: Cycles {
-            refusal: 0,
-            cycles: cycles_of(kind),
-        },
-        registers: Registers {
-            general,
-            b,
-            ib,
-            status: registers.status,
-            enable: registers.enable,
-            waiting: registers.waiting,
-            left: registers.left,
-        },
-    }
-}
-
-// The refusal of a general register's number; 0 if there is such a register.
-fn number_refusal(number: u8) -> u8
-    ensures { result ≡ number_refusal number }
-{
-    if 15 < number {
-        return bits::REGISTER;
-    }
-    bits::CARRIED_OUT
 }
 
 // The value of one general register.
-pub fn read(registers: Registers, number: u8) -> Register
-    ensures { result ≡ read_of registers number }
+pub fn read(registers: &Registers, number: u8) -> Register
+    ensures { result ≡ read_of registers.now number }
 {
-    let refused = number_refusal(number);
-    if refused != 0 {
-        return Register {
-            refusal: refused,
-            value: 0,
-        };
-    }
-    let general = registers.general;
-    Register {
-        refusal: 0,
-        value: general_at(&general, number),
+    match check_number(number) {
+        Ok(()) => Register {
+            refusal: bits::CARRIED_OUT,
+            value: registers.general_at(number),
+        },
+        Err(refusal) => Register::from(refusal),
     }
 }
 
-// The registers with a value in one general register.
-pub fn write(registers: Registers, number: u8, value: u64) -> Written
-    ensures { result ≡ write_of registers number value }
+// A value into one general register, or the refusal and the registers as they were.
+pub fn write(registers: &mut Registers, number: u8, value: u64) -> u8
+    ensures answer { result ≡ (write_of registers.old number value).refusal }
+    ensures registers { registers.new ≡ (write_of registers.old number value).registers }
 {
-    let refused = number_refusal(number);
-    if refused != 0 {
-        return Written {
-            refusal: refused,
-            registers,
-        };
-    }
-    let mut after = registers;
-    put(&mut after.general, number, value);
-    Written {
-        refusal: 0,
-        registers: after,
+    match check_number(number) {
+        Ok(()) => {
+            registers.put(number, value);
+            bits::CARRIED_OUT
+        }
+        Err(refusal) => u8::from(refusal),
     }
 }

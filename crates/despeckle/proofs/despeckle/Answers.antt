@@ -1,24 +1,26 @@
 -- `despeckle::despeckle` meets its contract. Assumes nothing.
-use native.Mathlib.Omega.{arith}
+use mathlib.Core.Path.{sym, ◌∙◌}
 use lib.ListN.{length}
+use Rattle.bits.proofs.Numbers.{done-is_ok, refused-is_ok}
 use Rattle.despeckle.proofs.PlaneAnswers.{PlaneInLimits, plane-within, is-plane, plane-refused, plane-done}
 use Rattle.despeckle.proofs.despeckle.Goals as goal
-use Rattle.despeckle.proofs.despeckle.Goals.{Else-number-ne0}
-
-pub returns-then-number-ne0 : goal.returns-then-number-ne0
-returns-then-number-ne0 c =
-    let a = c.args in
-    plane-refused a.plane.now a.rows a.words a.out.now c.refusal-number.ensures (λ z. c.if-number-ne0.true (omega (arith, z)))
+use Rattle.despeckle.proofs.despeckle.Goals.{Then-is_ok, then-is_ok, else-is_ok}
 
 -- a call that is not refused is within the limits
-allowed : (c : Else-number-ne0) → let a = c.args in PlaneInLimits (length a.plane.now) a.rows a.words (length a.out.now)
-allowed c = plane-within _ _ _ _ (omega (arith, c.refusal-number.ensures, c.if-number-ne0.false))
+allowed : (c : Then-is_ok) → let a = c.args in PlaneInLimits (length a.plane.now) a.rows a.words (length a.out.now)
+allowed c = plane-within _ _ _ _ (sym c.check-outcome.ensures ∙ done-is_ok _ (sym c.if-is_ok.ensures.value))
+
+pub invariant_of-plane : goal.invariant_of-plane
+invariant_of-plane c = record { whole = is-plane _ _ _ _ (allowed (goal.at.invariant_of-plane c).Then-is_ok) }
 
 pub despeckle_rows-requires : goal.despeckle_rows-requires
-despeckle_rows-requires c = let w = allowed (goal.at.despeckle_rows-requires c).Else-number-ne0 in (is-plane _ _ _ _ w, w.room)
+despeckle_rows-requires c = (allowed (goal.at.despeckle_rows-requires c).Then-is_ok).room
 
 pub returns : goal.returns
 returns c =
-    let d = c in
-    let a = d.args in
-    plane-done a.plane.now a.rows a.words a.out.now d.refusal-number.ensures (omega (arith, d.if-number-ne0.false)) c.despeckle_rows.ensures
+    let a = c.args in
+    let e = c.number.ensures ∙ c.check-outcome.ensures in
+    elim c.if-is_ok.branch [
+      | then-is_ok w ↦ plane-done a.plane.now a.rows a.words a.out.now e (c.number.ensures ∙ done-is_ok _ (sym w.if-is_ok.ensures.value)) (w.out-is ∙ w.despeckle_rows.ensures)
+      | else-is_ok w ↦ rw w.out-is (plane-refused a.plane.now a.rows a.words a.out.now e (λ z. refused-is_ok _ (sym w.if-is_ok.ensures.value) (sym c.number.ensures ∙ z)))
+    ]

@@ -1,46 +1,37 @@
 -- `frame::count` meets its contract. Assumes nothing.
-use mathlib.Core.Path.{◌∙◌, ap, subst⁻¹}
-use mathlib.Core.List.{List}
-use Prim.Native.Nat.{ℕ, ◌+◌, ◌<◌}
-use native.Mathlib.Omega.{arith}
-use borrow.Author.Rules.{rules}
-use lib.ListN.{length, drop}
-use Rattle.unit.specs.Operation.{Operation}
-use Rattle.runs.specs.Run.{operations_of}
-use Rattle.runs.proofs.OperationLists.{operations-next, operations-end, operations-after}
-use Rattle.frame.proofs.Counting.{Counting, counting-none, counting-next, counting-spent, counting-done}
+use Rattle.std.proofs.Common.{length, length-append, arith, ap, ◌∙◌}
+use Rattle.std.specs.Slice.Iter.{chunks_exact_rest}
+use Rattle.runs.proofs.OperationLists.{operations-four, operations-short}
+use Rattle.frame.proofs.Counting.{counting-none, counting-next, counting-spent, counting-done}
 use Rattle.frame.proofs.count.Goals as goal
+use Rattle.frame.proofs.count.Goals.{in-None, in-Some+then-left-cycles}
 
-pub loop-at-init : goal.loop-at-init
-loop-at-init c =
-    let a = c.args in
-    let e = c.bytes_of-at.ensures in
-    let h = c.requires.1 in (
-      omega (arith, e, h),
-      omega (arith, e),
-      subst⁻¹ (λ (os : List Operation). Counting (drop a.ran (operations_of a.ops.now)) a.budget a.budget 0 os) (ap (λ (n : ℕ). operations_of (drop n a.ops.now)) e ∙ operations-after a.ran a.ops.now) counting-none,
-    )
+pub loop-operation-init : goal.loop-operation-init
+loop-operation-init c =
+    rw (c.into_iter-operation-iterator.ensures.into_iter_gives, c.chunks_exact-operation-items.ensures.rest)
+    (record { four = c.chunks_exact-operation-items.ensures.size; bytes = omega arith; within = omega arith; counting = counting-none })
 
-pub returns-then-left-cycles : goal.returns-then-left-cycles
-returns-then-left-cycles c =
-    let b = c in
-    let l = b.loop-at in
-    let ops = b.args.ops.now in
-    let h : l.at + 3 < length ops = search rules in
-    let g = rw (operations-next ops l.at h) at l.invariant.2 in
-    rw c.turn_of.ensures (counting-spent g b.cycles_of-cycles.ensures c.if-left-cycles.true)
+pub loop-operation-preserved : goal.loop-operation-preserved
+loop-operation-preserved c =
+    let s = c.in-Some.ensures.steps in
+    let l = c.loop-operation in
+    let n = ap length s.1.0 ∙ length-append c.in-Some.operation.now (chunks_exact_rest c.next.new.self) in
+    record {
+      four = s.0 ∙ l.invariant.four;
+      bytes = omega (arith, n, s.1.1, l.invariant.four);
+      within = omega arith;
+      counting = counting-next (rw (operations-four _ _ s.1.0 (s.1.1 ∙ l.invariant.four)) at l.invariant.counting) c.cycles_of-cycles.ensures c.if-left-cycles.false;
+    }
 
-pub loop-at-preserved : goal.loop-at-preserved
-loop-at-preserved c =
-    let b = c in
-    let l = b.loop-at in
-    let ops = b.args.ops.now in
-    let h : l.at + 3 < length ops = search rules in
-    let g = rw (operations-next ops l.at h) at l.invariant.2 in
-    (search rules, search rules, counting-next g b.cycles_of-cycles.ensures (search rules))
-
-pub returns : goal.returns
-returns c =
-    let l = c.loop-at in
-    let ops = c.args.ops.now in
-    rw c.turn_of-2.ensures (counting-done (rw (operations-end ops l.at c.loop-at-test.false) at l.invariant.2))
+pub returns-clause-counted : goal.returns-clause-counted
+returns-clause-counted c =
+    let l = c.loop-operation in
+    elim c.match-next.branch [
+      | in-None w ↦
+          let e = operations-short _ w.in-None.ensures.steps.1.0 l.invariant.four in
+          counting-done (rw e at l.invariant.counting)
+      | in-Some+then-left-cycles w ↦
+          let s = w.in-Some.ensures.steps in
+          let e = operations-four _ _ s.1.0 (s.1.1 ∙ l.invariant.four) in
+          counting-spent (rw e at l.invariant.counting) w.cycles_of-cycles.ensures w.if-left-cycles.true
+    ]

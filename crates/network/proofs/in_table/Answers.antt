@@ -1,24 +1,24 @@
 -- `network::in_table` meets its contract. Assumes nothing.
-use mathlib.Core.Path.{◌∙◌, ap}
-use Prim.Native.Nat.{ℕ}
+use mathlib.Core.Path.{◌≡◌, sym}
+use native.Mathlib.Decide.{ℕ_discrete}
+use native.Mathlib.Omega.{arith}
+use Rattle.std.specs.Prelude.{MatchResult}
+use Rattle.bits.specs.Refusal.{log_of, number_of}
 use Rattle.network.specs.Word.{by_index}
-use Rattle.network.proofs.NetworkAnswers.{is_64}
+use Rattle.network.specs.Calls.{network_refusal}
+use Rattle.network.proofs.NetworkAnswers.{width-refused}
+use borrow.Author.Rules.{rules}
 use Rattle.network.proofs.in_table.Goals as goal
 
-pub returns-then-width-eq8 : goal.returns-then-width-eq8
-returns-then-width-eq8 c = rw c.if-width-eq8.true c.by_index.ensures
-
-pub returns-then-width-eq16 : goal.returns-then-width-eq16
-returns-then-width-eq16 c = rw c.if-width-eq16.true c.by_index-then-width-eq16.ensures
-
-pub returns-then-width-eq32 : goal.returns-then-width-eq32
-returns-then-width-eq32 c = rw c.if-width-eq32.true c.by_index-then-width-eq32.ensures
-
 pub returns : goal.returns
-returns c =
-    let third = c in
-    let second = third in
-    let first = second in
-    let a = first.args in
-    let l = is_64 a.width first.requires first.if-width-eq8.false second.if-width-eq16.false third.if-width-eq32.false in
-    c.by_index-2.ensures ∙ ap (λ (n : ℕ). by_index a.rising n a.stages) l
+returns g c = by (ℕ_discrete (log_of c.args.width) 0)
+  where
+    by : Dec (log_of c.args.width ≡ 0) → MatchResult c.call.result (λ placed. (network_refusal c.args.width c.args.stages 0 ≡ 0)
+        × (placed ≡ by_index g.D.Direction.is_rising (log_of c.args.width) c.args.stages)) (λ refusal. network_refusal c.args.width c.args.stages 0 ≡ number_of refusal)
+    by (yes z) = rw (c.call.ensures.refused z) (sym (width-refused c.args.width c.args.stages 0 z))
+    by (no n) =
+        let p = c.call.ensures.accepted (omega arith) in
+        let q : MatchResult c.call.result (λ placed. (network_refusal p.0.bits c.args.stages 0 ≡ 0)
+        × (placed ≡ by_index g.D.Direction.is_rising (log_of p.0.bits) c.args.stages)) (λ refusal. network_refusal p.0.bits c.args.stages 0 ≡ number_of refusal) =
+        search rules in
+        rw p.1 at q

@@ -1,11 +1,8 @@
 -- What the loops of `network::spread` keep. Assumes nothing.
 use mathlib.Core.Path.{◌≡◌}
-use Prim.Native.Nat.{◌≤◌, ◌-◌, ◌^◌}
+use Prim.Native.Nat.{◌-◌, ◌^◌}
 use Rattle.network.specs.Word.{spread_of}
 use Rattle.network.proofs.spread.Given as goal
 
 abbrev pub invariant-loop-at : goal.invariant-loop-at
-invariant-loop-at l = (l.at ≤ l.index) × (l.bits ≡ spread_of (2 ^ (5 - l.at)) l.stage)
-
-abbrev pub decreases-loop-at : goal.decreases-loop-at
-decreases-loop-at l = l.index - l.at
+invariant-loop-at l = l.bits ≡ spread_of (2 ^ (6 - l.at)) l.stage

@@ -1,12 +1,9 @@
 -- What the loops of `network::stage_bits` keep. Assumes nothing.
 use mathlib.Core.Path.{◌≡◌}
-use Prim.Native.Nat.{◌-◌, ◌*◌, ◌≤◌}
+use Prim.Native.Nat.{◌*◌}
 use Rattle.bits.specs.Bit.{of_bits}
-use Rattle.network.proofs.StageBlocks.{control_by}
+use Rattle.network.specs.Decoder.{control_by}
 use Rattle.network.proofs.stage_bits.Given as goal
 
 abbrev pub invariant-loop-block : goal.invariant-loop-block
-invariant-loop-block l = (l.block ≤ l.blocks) × (l.out ≡ of_bits (l.distance * l.block) (control_by l.distance l.counts))
-
-abbrev pub decreases-loop-block : goal.decreases-loop-block
-decreases-loop-block l = l.blocks - l.block
+invariant-loop-block l = l.out ≡ of_bits (l.distance * l.block) (control_by l.distance l.counts)

@@ -1,21 +1,14 @@
 -- `pack::moves` meets its contract: before turn i, the first i words are found, and `ones` has the gaps divided by 2 ^ i.
 -- Assumes nothing.
-use mathlib.Core.Path.{◌≡◌}
-use native.Mathlib.Omega.{arith}
 use borrow.Author.Rules.{rules}
 use Rattle.pack.proofs.Gaps.{halved_none, halved-next, moves-none, moves_next}
 use Rattle.pack.proofs.moves.Goals as goal
 
 pub loop-i-init : goal.loop-i-init
-loop-i-init c = (search rules, search rules, halved_none (search rules), moves-none)
+loop-i-init c = (search rules, halved_none (search rules), moves-none)
 
 pub loop-i-preserved : goal.loop-i-preserved
 loop-i-preserved c =
     let inv = c.loop-i.invariant in
     let p = c.parities-word.ensures in
-    (search rules, search rules, halved-next inv.2 p (search rules), moves_next inv.2 p (search rules) inv.3)
-
-pub returns : goal.returns
-returns c =
-    let e : c.loop-i.i ≡ 6 = omega arith in
-    rw e at c.loop-i.invariant.3
+    (search rules, halved-next inv.1 p (search rules), moves_next inv.1 p (search rules) inv.2)

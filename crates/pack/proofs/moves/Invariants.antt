@@ -1,13 +1,9 @@
 -- What the loops of `pack::moves` keep. Assumes nothing.
 use mathlib.Core.Path.{◌≡◌}
-use Prim.Native.Nat.{◌≤◌, ◌-◌}
 use lib.ListN.{length}
 use Rattle.pack.specs.Moves.{Moves}
 use Rattle.pack.proofs.Gaps.{HalvesGaps}
 use Rattle.pack.proofs.moves.Given as goal
 
 abbrev pub invariant-loop-i : goal.invariant-loop-i
-invariant-loop-i l = (l.i ≤ 6) × (length l.words ≡ 6) × HalvesGaps l.mask l.i l.ones × Moves l.mask l.i l.words
-
-abbrev pub decreases-loop-i : goal.decreases-loop-i
-decreases-loop-i l = 6 - l.i
+invariant-loop-i l = (length l.words ≡ 6) × HalvesGaps l.mask l.i l.ones × Moves l.mask l.i l.words

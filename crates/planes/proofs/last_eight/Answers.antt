@@ -1,5 +1,5 @@
 -- `planes::last_eight` meets its contract. Assumes nothing.
-use mathlib.Core.Path.{◌≡◌, refl, sym, ◌∙◌, ap}
+use mathlib.Core.Path.{◌≡◌, sym, ◌∙◌, ap}
 use mathlib.Core.List.{append-nil}
 use Prim.Native.Nat.{ℕ, ◌-◌}
 use native.Mathlib.Omega.{arith}
@@ -9,15 +9,12 @@ use Rattle.network.proofs.Filling.{fill_more}
 use borrow.Author.Rules.{rules}
 use Rattle.planes.proofs.last_eight.Goals as goal
 
-pub loop-at-init : goal.loop-at-init
-loop-at-init c = (search rules, refl)
-
 pub loop-at-preserved : goal.loop-at-preserved
 loop-at-preserved c =
     let l = c.loop-at in
     let a = c.args in
     let n : length a.words ≡ 32 = search rules in
-    (search rules, fill_more 8 0 (drop 24 a.words) l.at (search rules) (omega (arith, length-drop 24 a.words, n)) l.invariant.1 (sym (get_or-drop 24 a.words l.at 0)))
+    fill_more 8 0 (drop 24 a.words) l.at (search rules) (omega (arith, length-drop 24 a.words, n)) l.invariant (sym (get_or-drop 24 a.words l.at 0))
 
 pub returns : goal.returns
 returns c =
@@ -25,6 +22,6 @@ returns c =
     let a = c.args in
     let n : length a.words ≡ 32 = search rules in
     let e : l.at ≡ 8 = omega arith in
-    l.invariant.1
+    l.invariant
     ∙ rw (e, take_all 8 (drop 24 a.words) (omega (arith, length-drop 24 a.words, n))) (append-nil (drop 24 a.words))
     ∙ sym (ap (λ (k : ℕ). drop (k - 8) a.words) n)

@@ -7,4 +7,4 @@ use borrow.Author.Rules.{rules}
 use Rattle.planes.proofs.to_planes.Goals as goal
 
 pub returns : goal.returns
-returns c = ap (λ (ws : List ℕ). record { words = ws }) (c.pack_all.ensures ∙ packing-planes c.args.words (search rules))
+returns c = ap (λ (ws : List ℕ). record { words = ws }) (c.carry_list.ensures ∙ packing-planes c.args.words (search rules))

@@ -7,5 +7,5 @@ use Rattle.runs.proofs.acknowledge.Goals as goal
 
 pub returns : goal.returns
 returns c =
-    let a = c.args in
-    ap (with_status a.registers) (cleared_by a.registers.status a.byte (search rules) (search rules))
+    let k = c.args.registers.now in
+    ap (with_status k) (cleared_by k.status c.args.byte (search rules) (search rules))

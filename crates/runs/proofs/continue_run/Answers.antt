@@ -1,31 +1,14 @@
 -- `runs::continue_run` meets its contract. Assumes nothing.
-use mathlib.Core.Path.{sym, ◌∙◌, ap}
+use mathlib.Core.Path.{◌∙◌, ap}
 use mathlib.Core.Bool.{Bool, not, ◌&&◌}
-use Prim.Native.Nat.{ℕ}
-use borrow.Author.Rules.{rules}
-use lib.Dec.{eqb}
-use Rattle.unit.specs.Bank.{bank_of}
-use Rattle.runs.specs.declared.Marks.{Marks}
-use Rattle.runs.specs.Run.{run_refusal, with_marks, performed_by, perform_of, is_remainder}
-use Rattle.runs.proofs.OperationLists.{run-within}
+use Rattle.unit.specs.Bank.{waits}
+use Rattle.runs.specs.Run.{perform_of}
+use Rattle.runs.proofs.Ends.{performed}
 use Rattle.runs.proofs.continue_run.Goals as goal
 
-pub perform-after-requires : goal.perform-after-requires
-perform-after-requires c =
-    let r = c in
-    let s = r in
-    ((search rules, search rules, search rules), s.requires, λ e. run-within _ s.args.ops.now (sym r.run_refusal-refused.ensures ∙ e))
-
 pub returns : goal.returns
-unfolding perform_of
 returns c =
-    let p = c in
-    let r = p in
-    let q = r in
-    let m = q in
-    let a = m.args in
-    rw c.ran_at.ensures
-    (p.perform-after.ensures
-    ∙ ap (λ (n : ℕ). performed_by n (bank_of (with_marks a.registers m.marks_of-marks.result) a.list.now) a.ops.now a.budget) r.run_refusal-refused.ensures
-    ∙ ap (λ (b : Bool). performed_by (run_refusal (not (not (eqb m.marks_of-marks.result.waiting 0) && b)) a.ops.now) (bank_of (with_marks a.registers m.marks_of-marks.result) a.list.now) a.ops.now a.budget) q.is_remainder-remainder.ensures
-    ∙ ap (λ (t : Marks). performed_by (run_refusal (not (not (eqb t.waiting 0) && is_remainder t.left a.list.now a.ops.now)) a.ops.now) (bank_of (with_marks a.registers t) a.list.now) a.ops.now a.budget) m.marks_of-marks.ensures)
+    let a = c.args in
+    let k = a.bank.now in
+    performed c.run_refusal-checked.result (not (waits k.registers && c.is_remainder-remainder.result)) a.ops.now k a.budget c.run_refusal-checked.ensures c.perform.ensures
+    ∙ ap (λ (b : Bool). perform_of (not (waits k.registers && b)) k a.ops.now a.budget) c.is_remainder-remainder.ensures

@@ -10,12 +10,10 @@ use Rattle.runs.proofs.end_of.Goals as goal
 
 pub returns-then-ran-ops : goal.returns-then-ran-ops
 returns-then-ran-ops c =
-    let s = c in
-    let e = length-operations s.args.ops.now s.requires.0 in
-    sym (ap (λ (b : Bool). cond b 2 1) (lt-ltb s.args.ran (length (operations_of s.args.ops.now)) (omega (arith, e, c.if-ran-ops.true))))
+    let e = length-operations c.args.ops.bytes.now c.args.ops.whole in
+    sym (ap (λ (b : Bool). cond b 2 1) (lt-ltb c.args.ran (length (operations_of c.args.ops.bytes.now)) (omega (arith, e, c.if-ran-ops.true))))
 
 pub returns : goal.returns
 returns c =
-    let s = c in
-    let e = length-operations s.args.ops.now s.requires.0 in
-    sym (ap (λ (b : Bool). cond b 2 1) (le-ltb s.args.ran (length (operations_of s.args.ops.now)) (omega (arith, e, c.if-ran-ops.false))))
+    let e = length-operations c.args.ops.bytes.now c.args.ops.whole in
+    sym (ap (λ (b : Bool). cond b 2 1) (le-ltb c.args.ran (length (operations_of c.args.ops.bytes.now)) (omega (arith, e, c.if-ran-ops.false))))

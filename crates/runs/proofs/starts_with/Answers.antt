@@ -1,30 +1,19 @@
 -- `runs::starts_with` meets its contract. Assumes nothing.
-use mathlib.Core.Path.{refl}
-use Prim.Native.Nat.{◌<◌}
-use native.Mathlib.Omega.{arith}
-use borrow.Author.Rules.{rules}
-use lib.ListN.{length, take, length-take}
-use lib.Seq.{get_or-take}
+use Rattle.std.proofs.Common.{◌≡◌, arith, length, inl, inr}
 use Rattle.runs.proofs.Remainders.{same_next, same_end}
 use Rattle.runs.proofs.starts_with.Goals as goal
 
-pub loop-at-init : goal.loop-at-init
-loop-at-init c = (search rules, refl)
-
-pub loop-at-preserved : goal.loop-at-preserved
-loop-at-preserved c =
-    let l = c in
-    let list = l.args.list.now in
-    let ops = l.args.ops.now in
-    let n = length-take (length ops) list in
-    let h : l.loop-at.at < length ops = search rules in
-    let s = same_next (take (length ops) list) ops l.loop-at.same l.loop-at.at (omega (arith, n, h, l.requires.0, l.requires.1)) h l.loop-at.invariant.1 in
-    (search rules, rw (get_or-take (length ops) list l.loop-at.at 0 h) at s)
+pub loop-own-preserved : goal.loop-own-preserved
+loop-own-preserved c =
+    let s = c.in-Some.ensures.steps in
+    let i = rw (s.0, s.1) at c.loop-own.invariant in
+    (omega (arith, i.0), same_next _ _ _ _ _ i.1)
 
 pub returns : goal.returns
 returns c =
-    let l = c in
-    let list = l.args.list.now in
-    let ops = l.args.ops.now in
-    let n = length-take (length ops) list in
-    same_end (take (length ops) list) ops l.loop-at.same l.loop-at.at (omega (arith, n, c.loop-at-test.false)) c.loop-at-test.false l.loop-at.invariant.1
+    let i = c.loop-own.invariant in
+    let none : length c.loop-own.own-iterator.b.rest.now ≡ 0 = elim c.in-None.ensures.steps [
+      | inl s ↦ omega (arith, i.0, s.1.0)
+      | inr s ↦ s.1.0
+    ] in
+    same_end _ _ _ none i.1

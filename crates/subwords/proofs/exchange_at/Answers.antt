@@ -2,17 +2,10 @@
 use mathlib.Core.Path.{◌∙◌}
 use Prim.Native.Nat.{◌-◌, ◌^◌}
 use Rattle.network.proofs.Table.{distance-at, pair-at}
-use Rattle.network.proofs.TableSteps.{distance-lt}
 use Rattle.subwords.proofs.Sizes.{distance-size}
 use Rattle.subwords.proofs.Words.{exchanged-by}
 use borrow.Author.Rules.{rules}
 use Rattle.subwords.proofs.exchange_at.Goals as goal
-
-pub overflow_shl-word : goal.overflow_shl-word
-overflow_shl-word c = distance-lt c.args.index (search rules)
-
-pub overflow_shr-word : goal.overflow_shr-word
-overflow_shr-word c = distance-lt c.args.index (search rules)
 
 pub returns : goal.returns
 returns c =

@@ -5,4 +5,4 @@ use Rattle.subwords.proofs.Words.{halves-exchange}
 use Rattle.subwords.proofs.exchange_pairs.Goals as goal
 
 pub returns : goal.returns
-returns c = let a = c.args in c.answer_halves.ensures ∙ answers-same a.size (λ h. halves-exchange a.size h a.word)
+returns c = let a = c.args in rw (c.of.ensures, c.of-2.ensures) at c.answer_halves.ensures ∙ answers-same a.size (λ h. halves-exchange a.size h a.word)

@@ -48,8 +48,6 @@ steps x h =
 
 pub returns : goal.returns
 returns c =
-    let b = c in
-    let a = b in
     c.exchange_marked.ensures
-    ∙ ap (exchange_of 28 third) (b.exchange_marked-fours.ensures ∙ ap (exchange_of 14 second) a.exchange_marked-pairs.ensures)
-    ∙ steps a.args.tile (search rules)
+    ∙ ap (exchange_of 28 third) (c.exchange_marked-fours.ensures ∙ ap (exchange_of 14 second) c.exchange_marked-pairs.ensures)
+    ∙ steps c.args.tile (search rules)

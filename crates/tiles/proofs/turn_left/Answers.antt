@@ -7,6 +7,5 @@ use Rattle.tiles.proofs.turn_left.Goals as goal
 
 pub returns : goal.returns
 returns c =
-    let m = c in
-    let x = m.args.tile in
-    c.transpose.ensures ∙ ap (moved transpose_rule) (m.mirrored.ensures ∙ rows-mirrored x) ∙ rows-then-transpose x
+    let x = c.args.tile in
+    c.transpose.ensures ∙ ap (moved transpose_rule) (c.mirrored.ensures ∙ rows-mirrored x) ∙ rows-then-transpose x

@@ -7,5 +7,7 @@ use Rattle.tiles.proofs.turn_right.Goals as goal
 
 pub returns : goal.returns
 returns c =
-    let t = c in
-    c.mirrored.ensures ∙ rows-mirrored t.transpose.result ∙ ap (moved rows_rule) t.transpose.ensures ∙ sym (right_is t.args.tile)
+    c.mirrored.ensures
+    ∙ rows-mirrored c.transpose.result
+    ∙ ap (moved rows_rule) c.transpose.ensures
+    ∙ sym (right_is c.args.tile)

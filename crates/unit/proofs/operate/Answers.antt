@@ -1,34 +1,36 @@
 -- `unit::operate` meets its contract. Assumes nothing.
-use mathlib.Core.Path.{refl, ap}
-use mathlib.Core.Bool.{true, false}
-use borrow.Author.Rules.{rules}
-use borrow.Author.Tests.{eq-eqb, ne_eqb}
-use lib.ListN.{replicate}
-use Rattle.unit.specs.Calls.{operated, operate_of}
-use Rattle.unit.specs.Lent.{Sized}
-use Rattle.unit.proofs.Carried.{carried-along}
-use Rattle.unit.proofs.KeptNetworks.{kept-is}
+use mathlib.Core.Path.{◌≡◌}
+use Rattle.bits.specs.Refusal.{number_of}
+use Rattle.unit.specs.Bank.{waits}
+use Rattle.unit.specs.Operation.{operation_refusal}
+use Rattle.unit.specs.Calls.{operate_of}
+use Rattle.bits.proofs.Numbers.{number-refused}
 use Rattle.unit.proofs.operate.Goals as goal
-use Rattle.unit.proofs.operate.Goals.{After-ib-1}
 
-pub returns-then-refused-ne0 : goal.returns-then-refused-ne0
+pub returns-in-Ok-clause-answer : goal.returns-in-Ok-clause-answer
 unfolding operate_of
-returns-then-refused-ne0 c =
-    let b = c in
-    rw (← b.operation_refusal-refused.ensures, ne_eqb _ _ b.if-refused-ne0.true) c.turned_back.ensures
+returns-in-Ok-clause-answer c =
+    let a = c.args in
+    let e : 0 ≡ operation_refusal (waits a.registers.now) a.kind a.r1 a.r2 a.r3 = c.in-Ok.ensures in
+    rw (← e, c.cycles_of.ensures)
 
-sized : (c : After-ib-1) → let k = c.args.registers in Sized k.general k.b k.ib
-sized c = (search rules, search rules, search rules)
-
-pub step-requires : goal.step-requires
-step-requires c =
-    let k = c in
-    (sized (goal.at.step-requires c).After-ib-1, kept-is (replicate 3 0) refl false k.kept_for-falling.ensures, kept-is (replicate 3 0) refl true k.kept_for-rising.ensures, search rules)
-
-pub returns : goal.returns
+pub returns-in-Ok-clause-registers : goal.returns-in-Ok-clause-registers
 unfolding operate_of
-returns c =
-    let b = c in
-    let a = b.args in
-    let e = carried-along a.registers (a.kind, a.r1, a.r2, a.r3) c.step.ensures.0 in
-    rw (← b.operation_refusal-refused.ensures, eq-eqb _ _ b.if-refused-ne0.false, c.cycles_of.ensures) (ap (operated _) e)
+returns-in-Ok-clause-registers c =
+    let a = c.args in
+    let e : 0 ≡ operation_refusal (waits a.registers.now) a.kind a.r1 a.r2 a.r3 = c.in-Ok.ensures in
+    rw (← e) c.step.ensures
+
+pub returns-in-Err-clause-answer : goal.returns-in-Err-clause-answer
+unfolding operate_of
+returns-in-Err-clause-answer c =
+    let a = c.args in
+    let e : number_of c.in-Err.refusal ≡ operation_refusal (waits a.registers.now) a.kind a.r1 a.r2 a.r3 = c.in-Err.ensures in
+    rw (← e, number-refused c.in-Err.refusal) c.from.ensures
+
+pub returns-in-Err-clause-registers : goal.returns-in-Err-clause-registers
+unfolding operate_of
+returns-in-Err-clause-registers c =
+    let a = c.args in
+    let e : number_of c.in-Err.refusal ≡ operation_refusal (waits a.registers.now) a.kind a.r1 a.r2 a.r3 = c.in-Err.ensures in
+    rw (← e, number-refused c.in-Err.refusal)

@@ -1,14 +1,18 @@
 -- `unit::read` meets its contract. Assumes nothing.
-use borrow.Author.Tests.{eq-eqb, ne_eqb}
-use Rattle.unit.specs.Calls.{read_of}
+use mathlib.Core.Path.{◌≡◌}
+use Rattle.bits.specs.Refusal.{number_of}
+use Rattle.unit.specs.Calls.{number_refusal, read_of}
+use Rattle.bits.proofs.Numbers.{number-refused}
 use Rattle.unit.proofs.read.Goals as goal
 
-pub returns-then-refused-ne0 : goal.returns-then-refused-ne0
+pub returns-in-Ok : goal.returns-in-Ok
 unfolding read_of
-returns-then-refused-ne0 c = rw (← c.number_refusal-refused.ensures, ne_eqb _ _ c.if-refused-ne0.true)
+returns-in-Ok c =
+    let e : 0 ≡ number_refusal c.args.number = c.in-Ok.ensures in
+    rw (← e, c.general_at.ensures)
 
-pub returns : goal.returns
+pub returns-in-Err : goal.returns-in-Err
 unfolding read_of
-returns c =
-    let b = c in
-    rw (← b.number_refusal-refused.ensures, eq-eqb _ _ b.if-refused-ne0.false, c.general_at.ensures)
+returns-in-Err c =
+    let e : number_of c.in-Err.refusal ≡ number_refusal c.args.number = c.in-Err.ensures in
+    rw (← e, number-refused c.in-Err.refusal) c.from.ensures

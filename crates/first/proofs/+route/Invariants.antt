@@ -1,5 +1,0 @@
--- What falls at each call of the cycle. Assumes nothing.
-use Rattle.first.proofs.+route.Given as goal
-
-abbrev pub decreases-route : goal.decreases-route
-decreases-route l = l.e

@@ -1,6 +1,0 @@
--- `network::prepare_answer` meets its contract. Assumes nothing.
-use mathlib.Core.Path.{refl}
-use Rattle.network.proofs.prepare_answer.Goals as goal
-
-pub returns : goal.returns
-returns c = refl

@@ -1,6 +1,0 @@
--- `runs::enable` meets its contract. Assumes nothing.
-use mathlib.Core.Path.{refl}
-use Rattle.runs.proofs.enable.Goals as goal
-
-pub returns : goal.returns
-returns c = refl
