@@ -185,6 +185,10 @@ pub width-le : (w : ℕ) → accepted w ≡ true → w ≤ 64
 unfolding Between
 width-le = listed_le 3 6 logs (omega arith)
 
+pub width-le-64 : (w : ℕ) → accepted_to_64 w ≡ true → w ≤ 64
+unfolding Between
+width-le-64 = listed_le 3 6 logs_to_64 (omega arith)
+
 -- the code's test of a word against a width
 
 pub shr-fits : (x w : ℕ) → eqb (x / 2 ^ w) 0 ≡ fits w x

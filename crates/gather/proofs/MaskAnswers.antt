@@ -1,11 +1,10 @@
 -- What the calls' answers come to, by the tests that the code makes. Assumes nothing.
-use mathlib.Core.Path.{◌≡◌, refl, ◌∙◌, ap}
-use mathlib.Core.Bool.{Bool, true, not, cond, ◌||◌}
+use mathlib.Core.Path.{◌≡◌, refl, sym, ◌∙◌, ap}
+use mathlib.Core.Bool.{Bool, true, not, ◌||◌}
 use mathlib.Core.List.{[], ◌∷◌}
 use Prim.Native.Nat.{ℕ, ◌^◌, ◌<◌, ◌≤◌}
 use native.Mathlib.Omega.{arith}
 use native.Mathlib.Decide.{ℕ_discrete}
-use lib.Dec.{eqb}
 use borrow.Author.Tests.{eq-eqb, ne_eqb, ltb-true, not-false}
 use Rattle.bits.specs.Bit.{rank}
 use Rattle.bits.specs.Refusal.{accepted, fits, lowest, AnswersLowest}
@@ -37,26 +36,34 @@ module _ (w m x : ℕ) where
       answers-lowest (conditions_of w m x) (omega arith) (λ (a : Gathered). a.refusal) (λ n. record { refusal = n; count = 0; word = 0 })
       (record { refusal = 0; count = rank m w; word = f w m x }) refl (λ n. refl)
 
-  pub carried-out : (f : ℕ → ℕ → ℕ → ℕ) {n : ℕ} → n ≡ refusal_of w m x → n ≡ 0 → {y : ℕ} → y ≡ f w m x
-      → ◌≡◌ {A = Gathered} (record { refusal = 0; count = rank m w; word = y }) (answer_of f w m x)
-  unfolding answer_of
-  carried-out f {n} e z y = rw (← e, eq-eqb n 0 z, y)
+  module _ (f : ℕ → ℕ → ℕ → ℕ) {n : ℕ} (e : n ≡ refusal_of w m x) where
+    pub answer-refused : (n ≡ 0 → ⊥) → ◌≡◌ {A = Gathered} (record { refusal = n; count = 0; word = 0 }) (answer_of f w m x)
+    unfolding answer_of
+    answer-refused z = rw (← e, ne_eqb n 0 z)
 
-  -- the code computes at width 64, from a mask with what it says
-  pub answer-64 : (f : ℕ → ℕ → ℕ → ℕ) → (w ≤ 64 → m < 2 ^ w → x < 2 ^ w → f 64 m x ≡ f w m x) → {r : Gathered}
+    pub carried-out : n ≡ 0 → {y : ℕ} → y ≡ f w m x → ◌≡◌ {A = Gathered} (record { refusal = 0; count = rank m w; word = y }) (answer_of f w m x)
+    unfolding answer_of
+    carried-out z y = rw (← e, eq-eqb n 0 z, y)
+
+    -- the code computes at width 64
+    pub answer-64 : n ≡ 0 → (w ≤ 64 → m < 2 ^ w → x < 2 ^ w → f 64 m x ≡ f w m x) → {y : ℕ} → y ≡ f 64 m x
+        → {r : Gathered} → r ≡ record { refusal = 0; count = rank m 64; word = y } → r ≡ answer_of f w m x
+    answer-64 z same {y} g b =
+        let l = within (sym e ∙ z) in
+        let v = width-le w l.0 in
+        b
+        ∙ ap (λ (k : ℕ). record { refusal = 0; count = k; word = y }) (rank-wider l.2 v)
+        ∙ carried-out z (g ∙ same v l.2 l.1)
+
+  -- the same by the promises of what answers the three calls, from a mask with what it says
+  pub answer-by : (f : ℕ → ℕ → ℕ → ℕ) → (w ≤ 64 → m < 2 ^ w → x < 2 ^ w → f 64 m x ≡ f w m x) → {r : Gathered}
       → ((refusal_of w m x ≡ 0 → ⊥) → r ≡ record { refusal = refusal_of w m x; count = 0; word = 0 })
       → (refusal_of w m x ≡ 0 → (r.refusal ≡ 0) × (r.count ≡ rank m 64) × ((k : Marked) × (k.mask ≡ m) × (Marked × (r.word ≡ f 64 k.mask x))))
       → r ≡ answer_of f w m x
-  unfolding answer_of
-  answer-64 f same {r} refused carried = by_cases (ℕ_discrete (refusal_of w m x) 0)
+  answer-by f same {r} refused carried = by_cases (ℕ_discrete (refusal_of w m x) 0)
     where
-      by_cases : Dec (refusal_of w m x ≡ 0) → r ≡ cond (eqb (refusal_of w m x) 0) (record { refusal = 0; count = rank m w; word = f w m x })
-          (record { refusal = refusal_of w m x; count = 0; word = 0 })
+      by_cases : Dec (refusal_of w m x ≡ 0) → r ≡ answer_of f w m x
       by_cases (yes z) =
-          let l = within z in
-          let v = width-le w l.0 in
           let c = carried z in
-          let n = c.1 ∙ rank-wider l.2 v in
-          let y = c.2.2.1 ∙ ap (λ (k : ℕ). f 64 k x) c.2.1 ∙ same v l.2 l.1 in
-          rw (eq-eqb (refusal_of w m x) 0 z) (λ i. record { refusal = c.0 i; count = n i; word = y i })
-      by_cases (no z) = rw (ne_eqb (refusal_of w m x) 0 z) (refused z)
+          answer-64 f refl z same (c.2.2.1 ∙ ap (λ (k : ℕ). f 64 k x) c.2.1) (λ i. record { refusal = c.0 i; count = c.1 i; word = r.word })
+      by_cases (no z) = refused z ∙ answer-refused f refl z

@@ -1,8 +1,8 @@
 -- What the calls answer, by the tests that the code makes: whether controls fit, the lowest refusal (demand 1), the networks, prepared ones, the decoder.
 -- Assumes nothing.
-use mathlib.Core.Path.{◌≡◌, refl, sym, ◌∙◌, ap}
+use mathlib.Core.Path.{◌≡◌, refl, sym, ◌∙◌, ap, ap₂}
 use mathlib.Core.Bool.{Bool, true, false, not, cond, ◌&&◌, true≢false}
-use mathlib.Core.List.{List, [], ◌∷◌}
+use mathlib.Core.List.{List, [], ◌∷◌, reverse}
 use Prim.Native.Nat.{ℕ, zero, suc, ◌+◌, ◌-◌, ◌*◌, ◌/◌, ◌^◌, ◌<◌, ◌≤◌}
 use native.Mathlib.Omega.{arith}
 use native.Mathlib.Decide.{dec_lt}
@@ -10,9 +10,11 @@ use native.Mathlib.Nat.{pow-succ', zero-add, add-zero}
 use native.Mathlib.Numerals.{add-one}
 use lib.Dec.{eqb}
 use lib.Bits.{bit_or, or_zero_l, or_add_and, and_le_r}
-use lib.ListN.{length, get_or, drop, replicate}
-use lib.Seq.{drop-cons}
-use borrow.Author.Tests.{ne_eqb, lt-ltb, ltb-true, not-false}
+use lib.ListN.{length, get_or, take, drop, replicate}
+use lib.Seq.{drop-cons, take_at}
+use mir.Val.{Fits}
+use mir.Syntax.{w32}
+use borrow.Author.Tests.{eq-eqb, ne_eqb, lt-ltb, ltb-true, not-false}
 use Rattle.std.specs.Prelude.{Ok, Err}
 use Rattle.bits.specs.declared.Refusal.{Refusal}
 use Rattle.bits.specs.Refusal.{number_of, log_of, accepted, fits, lowest, AnswersLowest}
@@ -24,7 +26,8 @@ use Rattle.network.specs.declared.Prepared.{Prepared}
 use Rattle.network.specs.declared.Decoded.{Decoded}
 use Rattle.network.specs.Word.{prepared_of}
 use Rattle.network.specs.Decoder.{decode_of, decode_inverse_of, in_use}
-use Rattle.network.specs.Calls.{used_bits, controls_fit, network_conditions, network_refusal, network_answer, carried_by, prepare_answer, controls, decoded_with, decode_conditions, decode_refusal, decode_answer, no_controls}
+use Rattle.network.specs.Calls.{used_bits, controls_fit, network_conditions, network_refusal, network_answer, carried_by, prepare_answer, six, controls, decoded_with, decode_conditions, decode_refusal, decode_answer, no_controls}
+use Rattle.network.proofs.MaskRouting.{length-decode}
 use Rattle.network.proofs.Narrower.{decode-narrower}
 
 and_assoc : (a b c : Bool) → ((a && b) && c) ≡ (a && (b && c))
@@ -126,6 +129,12 @@ module _ (w : ℕ) (cs : List ℕ) (x : ℕ) where
   pub width-refused : log_of w ≡ 0 → 1 ≡ network_refusal w cs x
   width-refused e = sym (network-refusal-by (not-width w e) refl refl)
 
+  -- at width 64 every control bit is used, and every call is carried out
+  pub whole-carried : length cs ≡ 6 → ((i : ℕ) → Fits w32 (get_or cs i 0)) → x < 2 ^ 64 → w ≡ 64 → 0 ≡ network_refusal w cs x
+  whole-carried n u h e =
+      let used = each-fit 6 0 cs (λ i l. rw (zero-add i, lt-ltb i 6 (omega arith)) (u i).fits) in
+      sym (network-refusal-by {a = true} {f = true} {g = true} (rw e) (rw e (lt-ltb x (2 ^ 64) h)) (rw e used))
+
 -- demand 1, of both networks
 pub network-lowest : (f : ℕ → List ℕ → ℕ → ℕ) (w : ℕ) (k : Controls) (x : ℕ)
     → AnswersLowest (network_conditions w k.stages x) (λ a. a.refusal) (λ n. record { refusal = n; word = 0 }) (network_answer f w k x)
@@ -192,8 +201,27 @@ module _ (w m : ℕ) where
   unfolding decode_refusal
   decode-accepted e = not-false _ (none-applies (decode_conditions w m) (omega arith) (sym e)).0
 
-  pub decode-done : 0 ≡ decode_refusal w m → (l : ℕ) {cs : List ℕ} → l ≡ log_of w → cs ≡ decode_of 6 m → decoded_with (in_use l cs) ≡ decode_answer w m
-  unfolding decode_answer decode_inverse_of
-  decode-done e k q c =
-      let l = log-width w (decode-accepted e) in
-      rw (q, c, decode-narrower (log_of w) (omega (arith, l.1)) (omega (arith, l.2)) m, ← e)
+  pub decode-done : {n : ℕ} → n ≡ decode_refusal w m → n ≡ 0 → {l : ℕ} {r : Decoded} → l ≡ log_of w
+      → r ≡ record { refusal = 0; butterfly = controls (decode_of l m); inverse = controls (decode_inverse_of l m) } → r ≡ decode_answer w m
+  unfolding decode_answer
+  decode-done {n} e z {l} q d =
+      d
+      ∙ ap (λ (k : ℕ). record { refusal = 0; butterfly = controls (decode_of k m); inverse = controls (decode_inverse_of k m) }) q
+      ∙ rw (← e, eq-eqb n 0 z)
+
+  -- the same, from the controls at width 64
+  pub decode-in-use : 0 ≡ decode_refusal w m → (l : ℕ) {cs : List ℕ} → l ≡ log_of w → cs ≡ decode_of 6 m → decoded_with (in_use l cs) ≡ decode_answer w m
+  unfolding decode_inverse_of
+  decode-in-use e l q c =
+      let a = log-width w (decode-accepted e) in
+      decode-done e refl q (rw (c, decode-narrower l (omega (arith, a.1, q)) (omega (arith, a.2, q)) m))
+
+-- both networks' controls from the butterfly's
+pub both-decoded : (l m : ℕ) {cs ds : List ℕ} → cs ≡ six (decode_of l m) → ds ≡ six (reverse (take l cs))
+    → ◌≡◌ {A = Decoded} (record { refusal = 0; butterfly = record { stages = cs }; inverse = record { stages = ds } })
+    (record { refusal = 0; butterfly = controls (decode_of l m); inverse = controls (decode_inverse_of l m) })
+unfolding decode_inverse_of
+both-decoded l m c d =
+    let t : take l (six (decode_of l m)) ≡ decode_of l m = take_at (decode_of l m) (replicate (6 - length (decode_of l m)) 0) l (length-decode l m) in
+    ap₂ (λ (a b : List ℕ). record { refusal = 0; butterfly = record { stages = a }; inverse = record { stages = b } }) c
+    (d ∙ ap (λ (xs : List ℕ). six (reverse (take l xs))) c ∙ ap (λ (xs : List ℕ). six (reverse xs)) t)

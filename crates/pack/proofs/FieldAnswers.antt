@@ -1,5 +1,5 @@
 -- What the calls' answers come to, by the tests that the code makes. Assumes nothing.
-use mathlib.Core.Path.{◌≡◌, refl, sym, ◌∙◌, ap}
+use mathlib.Core.Path.{◌≡◌, refl, sym, ◌∙◌, ap, ap₂}
 use mathlib.Core.Bool.{Bool, false, not, cond, ◌||◌}
 use mathlib.Core.List.{List, [], ◌∷◌, ◌++◌}
 use Prim.Native.Nat.{ℕ, ◌-◌, ◌*◌, ◌≤◌}
@@ -126,17 +126,28 @@ module _ (n k a b : ℕ) where
   pub answer-count-le : (fields_answer n k a b).count ≤ k
   answer-count-le = of-answer (λ (r : Packed). r.count ≤ k) (λ z. omega arith) (λ z. omega arith)
 
--- what a call with refusal n answers and leaves
-module _ (n k a b : ℕ) (done out : List ℕ) where
-  pub refused : (r : Refusal) → number_of r ≡ n → {answer : Packed} → answer ≡ record { refusal = number_of r; count = 0; bits = 0 }
-      → (answer ≡ fields_answer n k a b) × (out ≡ left_of n done out)
-  refused r e h =
-      let z : n ≡ 0 → ⊥ = λ z. omega (arith, number-above r, e, z) in
-      (h ∙ rw e (answer-refused n k a b z), sym (left-refused z done out))
+-- what a call answers and leaves, from what the code counted
+module _ {n k : ℕ} (a b : ℕ) {size number : ℕ} {r : Packed} (s : size ≡ k) (e : number ≡ n) (h : r ≡ fields_answer number size a b) (done out : List ℕ) where
+  answered : r ≡ fields_answer n k a b
+  answered = h ∙ ap₂ (λ (m j : ℕ). fields_answer m j a b) e s
 
-  pub carried-out : n ≡ 0 → {answer : Packed} → answer ≡ fields_answer 0 k a b → {left : List ℕ} → left ≡ done
+  pub refused : (number ≡ 0 → ⊥) → (r ≡ fields_answer n k a b) × (out ≡ left_of n done out)
+  refused z = (answered, sym (left-refused (λ q. z (e ∙ q)) done out))
+
+  pub carried-out : number ≡ 0 → {left : List ℕ} → left ≡ done → (r ≡ fields_answer n k a b) × (left ≡ left_of n done out)
+  carried-out z l = (answered, l ∙ sym (left-done (sym e ∙ z) done out))
+
+-- the same, of what the code makes: a refusal's answer, and that of a cut
+module _ (n k a b : ℕ) (done out : List ℕ) where
+  pub refusal-answered : (r : Refusal) → number_of r ≡ n → {answer : Packed} → answer ≡ record { refusal = number_of r; count = 0; bits = 0 }
+      → (answer ≡ fields_answer n k a b) × (out ≡ left_of n done out)
+  refusal-answered r e h =
+      let z : number_of r ≡ 0 → ⊥ = λ z. omega (arith, number-above r, z) in
+      refused a b {size = k} refl e (h ∙ answer-refused (number_of r) k a b z) done out z
+
+  pub cut-answered : n ≡ 0 → {answer : Packed} → answer ≡ fields_answer 0 k a b → {left : List ℕ} → left ≡ done
       → (answer ≡ fields_answer n k a b) × (left ≡ left_of n done out)
-  carried-out z h l = (h ∙ rw z refl, l ∙ sym (left-done z done out))
+  cut-answered z h l = carried-out a b {size = k} refl (sym z) h done out refl l
 
 -- the part of a list from a up to b
 

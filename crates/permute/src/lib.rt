@@ -137,12 +137,13 @@ fn route_one(rising: bool, width: u32, entries: &[u8]) -> RoutedOne
     ensures value { result ≡ one_answer (fits_alone rising) (alone rising) width entries.now }
     ensures alone { AnswersAlone (cond rising inverse_of butterfly_of) width entries.now result }
 {
-    match controls_alone(rising, width, entries) {
-        Ok(controls) => RoutedOne {
-            refusal: bits::CARRIED_OUT,
-            controls,
-        },
-        Err(refusal) => RoutedOne::from(refusal),
+    let controls = match controls_alone(rising, width, entries) {
+        Ok(controls) => controls,
+        Err(refusal) => return RoutedOne::from(refusal),
+    };
+    RoutedOne {
+        refusal: bits::CARRIED_OUT,
+        controls,
     }
 }
 

@@ -47,12 +47,19 @@ impl From<Refusal> for Outcome {
     ghost from_gives = { λ refusal answer. answer ≡ record { refusal = number_of refusal; «end» = 0; ran = 0; cycles = 0 } };
 
     fn from(refusal: Refusal) -> Outcome {
-        Outcome {
-            refusal: u8::from(refusal),
-            end: u8::from(End::Refused),
-            ran: 0,
-            cycles: 0,
-        }
+        refused(u8::from(refusal))
+    }
+}
+
+// The answer of a refusal by its number.
+fn refused(refusal: u8) -> Outcome
+    ensures { result ≡ record { refusal = refusal; «end» = 0; ran = 0; cycles = 0 } }
+{
+    Outcome {
+        refusal,
+        end: u8::from(End::Refused),
+        ran: 0,
+        cycles: 0,
     }
 }
 
@@ -189,11 +196,11 @@ fn finish(bank: &mut unit::Bank, ops: Operations, ran: u32) -> End
     end
 }
 
-// A run of the operations on the bank, or the refusal, which sets a status bit alone.
-pub fn perform(bank: &mut unit::Bank, checked: Result<Operations, Refusal>, budget: u32) -> Outcome
+// A run of the operations on the bank, or a refusal by its number, which sets a status bit alone. (Any number: its promise stands.)
+pub fn perform(bank: &mut unit::Bank, checked: Result<Operations, u8>, budget: u32) -> Outcome
     ensures { MatchResult checked.entry
         (λ operations. leaving result bank.new ≡ carried_out bank.old operations.bytes.now budget)
-        (λ refusal. leaving result bank.new ≡ refused_of bank.old (number_of refusal)) }
+        (λ refusal. leaving result bank.new ≡ refused_of bank.old refusal) }
 {
     match checked {
         Ok(ops) => {
@@ -208,7 +215,7 @@ pub fn perform(bank: &mut unit::Bank, checked: Result<Operations, Refusal>, budg
         }
         Err(refusal) => {
             note(&mut bank.registers, End::Refused);
-            Outcome::from(refusal)
+            refused(refusal)
         }
     }
 }
@@ -220,7 +227,7 @@ pub fn run(bank: &mut unit::Bank, ops: &[u8], budget: u32) -> Outcome
 {
     let other = bank.registers.waiting != 0;
     let checked = run_refusal(other, ops);
-    perform(bank, checked, budget)
+    perform(bank, checked.map_err(u8::from), budget)
 }
 
 // internal: not more bytes than the bank's list has. Whether its first bytes are these. No branch depends on a byte (std's `starts_with` and
@@ -257,7 +264,7 @@ pub fn continue_run(bank: &mut unit::Bank, ops: &[u8], budget: u32) -> Outcome
     let waits = bank.registers.waiting != 0;
     let remainder = is_remainder(bank, ops);
     let checked = run_refusal(!(waits & remainder), ops);
-    perform(bank, checked, budget)
+    perform(bank, checked.map_err(u8::from), budget)
 }
 
 // The bank no longer waits.

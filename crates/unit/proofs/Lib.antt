@@ -1,5 +1,6 @@
 pub mod Held
 pub mod Tables
+pub mod RegistersTested
 pub mod TableRows
 pub mod Carried
 pub mod KeptNetworks

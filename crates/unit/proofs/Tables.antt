@@ -1,10 +1,13 @@
 -- A table by number, as a `match` goes through it. Assumes nothing.
 use mathlib.Core.Path.{◌≡◌, refl, sym, ◌∙◌, ap, subst⁻¹}
-use mathlib.Core.Bool.{Bool, true, false, cond}
+use mathlib.Core.Bool.{Bool, true, false, cond, ◌&&◌}
 use mathlib.Core.List.{List, [], ◌∷◌}
-use Prim.Native.Nat.{ℕ}
-use lib.Dec.{eqb}
-use borrow.Author.Tests.{ne_eqb, eqb-true, eqb-false}
+use Prim.Native.Nat.{ℕ, suc, ◌+◌, ◌<◌, ◌≤◌}
+use native.Mathlib.Omega.{arith}
+use native.Mathlib.Decide.{dec_lt}
+use lib.Dec.{eqb, leb}
+use lib.ListN.{length}
+use borrow.Author.Tests.{ne_eqb, eqb-true, eqb-false, le-leb, lt-leb}
 use Rattle.unit.specs.Operation.{table_entry}
 
 -- a number is none of a table's own, beside what P says, in the form in which a `match` leaves it
@@ -37,6 +40,31 @@ pub absent-other : {A : Type 0} (n : ℕ) (es : List (ℕ × A)) (d : A) → Abs
 absent-other n [] d none = refl
 absent-other n (e ∷ es) d none =
     ap (λ (b : Bool). cond b e.1 (table_entry n es d)) (ne_eqb n e.0 none.0) ∙ absent-other n es d none.1
+
+-- the entries are numbered from a
+abbrev pub Numbered : {A : Type 0} → ℕ → List (ℕ × A) → Type 0
+Numbered a [] = Unit
+Numbered a (e ∷ es) = (e.0 ≡ a) × Numbered (suc a) es
+
+past : {A : Type 0} (es : List (ℕ × A)) (a n : ℕ) → Numbered a es → Absent n es → a ≤ n → a + length es ≤ n
+past [] a n ks none l = omega arith
+past (e ∷ es) a n ks none l =
+    let h : suc a ≤ n = above ks.0 none.0 l in
+    let r = past es (suc a) n ks.1 none.1 h in
+    omega (arith, r)
+  where
+    above : {m : ℕ} → m ≡ a → (n ≡ m → ⊥) → a ≤ n → suc a ≤ n
+    above p q l = omega arith
+
+-- then a number that none has is below 1 or above the last
+pub outside : {A : Type 0} (es : List (ℕ × A)) (n : ℕ) → Numbered 1 es → Absent n es → (leb 1 n && leb n (length es)) ≡ false
+outside es n ks none = by-test (dec_lt n 1) (past es 1 n ks none)
+  where
+    by-test : Dec (n < 1) → (1 ≤ n → 1 + length es ≤ n) → (leb 1 n && leb n (length es)) ≡ false
+    by-test (yes l) h = rw (lt-leb 1 n l)
+    by-test (no l) h =
+        let u = h (omega arith) in
+        rw (le-leb 1 n (omega arith), lt-leb n (length es) (omega (arith, u)))
 
 -- what holds of every entry and, where there is none, of the other value, holds of what the table has at a number
 pub by-entry : {A : Type 0} (Q : ℕ → A → Type 0) (n : ℕ) (es : List (ℕ × A)) (d : A) → Entries Q es → (Absent n es → Q n d) → Q n (table_entry n es d)

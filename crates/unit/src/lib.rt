@@ -216,6 +216,16 @@ pub struct Networks {
 }
 
 impl Networks {
+    // Those of the butterfly's and of the inverse's control registers.
+    pub fn at(b: [u64; 3], ib: [u64; 3]) -> Networks
+        ensures { (result.butterfly.registers ≡ b) × (result.inverse.registers ≡ ib) }
+    {
+        Networks {
+            butterfly: Network::at(false, b),
+            inverse: Network::at(true, ib),
+        }
+    }
+
     // Those of control registers that are zero.
     pub fn new() -> Networks
         ensures { (result.butterfly.registers ≡ replicate 3 0) × (result.inverse.registers ≡ replicate 3 0) }

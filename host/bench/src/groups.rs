@@ -43,7 +43,8 @@ fn routed(width: u32, entries: &[u8], masks: impl Fn(usize, &[u8]) -> [u64; 6]) 
     TbMasks { refusal, masks }
 }
 
-/// As the library does it: crate grouping's code, line by line.
+/// As the library does it: the loops of crate grouping as they stood until 2026-11-27,
+/// line by line.
 fn by_passes(log: usize, entries: &[u8]) -> [u64; 6] {
     let mut masks = [0; 6];
     let (mut from, mut into) = ([0; 64], [0; 64]);

@@ -1,5 +1,6 @@
-//! Routing through both networks as the library does it, unproved: crate
-//! first's code line by line, after the refusals of crate permute.
+//! Routing through both networks as the library does it, unproved: the loops of
+//! crate first as they stood until 2026-11-27, line by line, after the refusals
+//! of crate permute.
 
 use tigbayon::TbControls2;
 

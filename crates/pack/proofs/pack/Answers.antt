@@ -1,7 +1,7 @@
 -- `pack::pack` meets its contract. Assumes nothing.
 use lib.ListN.{length}
 use Rattle.pack.specs.Fields.{size_of}
-use Rattle.pack.proofs.FieldAnswers.{InLimits, within, refused, carried-out, cut-room}
+use Rattle.pack.proofs.FieldAnswers.{InLimits, within, refusal-answered, cut-answered, cut-room}
 use Rattle.pack.proofs.pack.Goals as goal
 use Rattle.pack.proofs.pack.Goals.{In-Ok}
 
@@ -23,7 +23,7 @@ write_fields-requires c =
 pub returns-in-Ok : goal.returns-in-Ok
 returns-in-Ok c =
     let e = c.in-Ok.ensures in
-    carried-out _ _ _ _ _ _ e.3 (rw (e.0, e.1, e.2) at c.answer.ensures) (rw e.0 at c.write_fields.ensures)
+    cut-answered _ _ _ _ _ _ e.3 (rw (e.0, e.1, e.2) at c.answer.ensures) (rw e.0 at c.write_fields.ensures)
 
 pub returns-in-Err : goal.returns-in-Err
-returns-in-Err c = refused _ _ _ _ _ _ c.in-Err.refusal c.in-Err.ensures c.from.ensures
+returns-in-Err c = refusal-answered _ _ _ _ _ _ c.in-Err.refusal c.in-Err.ensures c.from.ensures

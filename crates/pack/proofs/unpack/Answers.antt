@@ -1,7 +1,7 @@
 -- `pack::unpack` meets its contract. Assumes nothing.
 use lib.ListN.{length}
 use Rattle.pack.specs.Fields.{size_of}
-use Rattle.pack.proofs.FieldAnswers.{InLimits, unpack-within, refused, carried-out, cut-room, cut-filled}
+use Rattle.pack.proofs.FieldAnswers.{InLimits, unpack-within, refusal-answered, cut-answered, cut-room, cut-filled}
 use Rattle.pack.proofs.unpack.Goals as goal
 use Rattle.pack.proofs.unpack.Goals.{In-Ok}
 
@@ -24,7 +24,7 @@ pub returns-in-Ok : goal.returns-in-Ok
 returns-in-Ok c =
     let e = c.in-Ok.ensures in
     let w = allowed (goal.at.returns-in-Ok c).In-Ok in
-    carried-out _ _ _ _ _ _ e.3 (rw (e.0, e.1, e.2) at c.answer.ensures) (cut-filled _ _ _ w.start w.end _ _ (rw e.0 at c.read_fields.ensures))
+    cut-answered _ _ _ _ _ _ e.3 (rw (e.0, e.1, e.2) at c.answer.ensures) (cut-filled _ _ _ w.start w.end _ _ (rw e.0 at c.read_fields.ensures))
 
 pub returns-in-Err : goal.returns-in-Err
-returns-in-Err c = refused _ _ _ _ _ _ c.in-Err.refusal c.in-Err.ensures c.from.ensures
+returns-in-Err c = refusal-answered _ _ _ _ _ _ c.in-Err.refusal c.in-Err.ensures c.from.ensures

@@ -4,8 +4,8 @@ use Rattle.alone.specs.Calls.{fits_alone, alone}
 use Rattle.permute.proofs.AloneAnswers.{one-turned-back, one-answered, answers-alone, either-alone}
 use Rattle.permute.proofs.route_one.Goals as goal
 
-pub returns-in-Ok : goal.returns-in-Ok
-returns-in-Ok c =
+pub returns : goal.returns
+returns c =
     let a = c.args in
     let e = one-answered a.width a.entries.now (fits_alone a.rising) (alone a.rising) c.in-Ok.ensures in
     record { value = e; alone = answers-alone a.width a.entries.now (fits_alone a.rising) (alone a.rising) (either-alone a.rising) e }

@@ -10,5 +10,5 @@ pub returns : goal.returns
 returns c =
     let a = c.args in
     let k = a.bank.now in
-    performed c.run_refusal-checked.result (not (waits k.registers && c.is_remainder-remainder.result)) a.ops.now k a.budget c.run_refusal-checked.ensures c.perform.ensures
+    performed c.run_refusal-checked.result c.map_err.result (not (waits k.registers && c.is_remainder-remainder.result)) a.ops.now k a.budget c.run_refusal-checked.ensures c.map_err.ensures.cases c.perform.ensures
     ∙ ap (λ (b : Bool). perform_of (not (waits k.registers && b)) k a.ops.now a.budget) c.is_remainder-remainder.ensures

@@ -6,4 +6,4 @@ use Rattle.runs.proofs.run.Goals as goal
 pub returns : goal.returns
 returns c =
     let a = c.args in
-    performed c.run_refusal-checked.result (waits a.bank.now.registers) a.ops.now a.bank.now a.budget c.run_refusal-checked.ensures c.perform.ensures
+    performed c.run_refusal-checked.result c.map_err.result (waits a.bank.now.registers) a.ops.now a.bank.now a.budget c.run_refusal-checked.ensures c.map_err.ensures.cases c.perform.ensures
