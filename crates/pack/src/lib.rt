@@ -311,16 +311,16 @@ impl Cut {
         if b < a || own < b || LONGEST < own || LONGEST < other {
             return Err(Refusal::Range);
         }
-        let cut = Cut {
+        let accepted = Cut {
             mask,
             size: bits::count(mask),
             from: a,
             to: b,
         };
-        if (other as u64) < cut.words() {
+        if (other as u64) < accepted.words() {
             return Err(Refusal::Short);
         }
-        Ok(cut)
+        Ok(accepted)
     }
 
     // As `accept`, where the other slice is packed words: 11 too.
