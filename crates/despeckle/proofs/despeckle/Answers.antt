@@ -1,20 +1,25 @@
 -- `despeckle::despeckle` meets its contract. Assumes nothing.
-use mathlib.Core.Path.{sym, ◌∙◌}
+use mathlib.Core.Path.{◌≡◌, sym, ◌∙◌}
 use lib.ListN.{length}
+use Rattle.bits.specs.Refusal.{number_in}
 use Rattle.bits.proofs.Numbers.{done-is_ok, refused-is_ok}
 use Rattle.despeckle.proofs.PlaneAnswers.{PlaneInLimits, plane-within, is-plane, plane-refused, plane-done}
 use Rattle.despeckle.proofs.despeckle.Goals as goal
 use Rattle.despeckle.proofs.despeckle.Goals.{Then-is_ok, then-is_ok, else-is_ok}
 
 -- a call that is not refused is within the limits
-allowed : (c : Then-is_ok) → let a = c.args in PlaneInLimits (length a.plane.now) a.rows a.words (length a.out.now)
-allowed c = plane-within _ _ _ _ (sym c.check-outcome.ensures ∙ done-is_ok _ (sym c.if-is_ok.ensures.value))
+allowed : (c : Then-is_ok) → number_in c.check-outcome.result ≡ 0 → let a = c.args in PlaneInLimits (length a.plane.now) a.rows a.words (length a.out.now)
+allowed c z = plane-within _ _ _ _ (sym c.check-outcome.ensures ∙ z)
 
 pub invariant_of-plane : goal.invariant_of-plane
-invariant_of-plane c = record { whole = is-plane _ _ _ _ (allowed (goal.at.invariant_of-plane c).Then-is_ok) }
+invariant_of-plane c =
+    let u = (goal.at.invariant_of-plane c).Then-is_ok in
+    record { whole = is-plane _ _ _ _ (allowed u (done-is_ok _ (sym u.if-is_ok.ensures.value))) }
 
 pub despeckle_rows-requires : goal.despeckle_rows-requires
-despeckle_rows-requires c = (allowed (goal.at.despeckle_rows-requires c).Then-is_ok).room
+despeckle_rows-requires c =
+    let v = (goal.at.despeckle_rows-requires c).Then-is_ok in
+    (allowed v (done-is_ok _ (sym v.if-is_ok.ensures.value))).room
 
 pub returns : goal.returns
 returns c =
